@@ -1,0 +1,35 @@
+-- The value of a source or its first fault, and what it means that a call gives it.
+-- A is a value, F a fault, and S the stop of a call, which may also be want of memory.
+use Rattle.std.specs.Prelude.{◌≡◌, List, [], ◌∷◌, ◌++◌, Result, Ok, Err}
+use Rattle.outside.specs.declared.fault.Spot.{Spot}
+use Rattle.outside.specs.declared.fault.Stop.{Stop}
+use Rattle.outside.specs.declared.fault.Stop.TheVariants.{At, NoMemory}
+
+-- the first fault, or what the second step makes of the first one's value
+infixl 10 ◌>>=◌
+abbrev pub ◌>>=◌ : {A B F : Type 0} → Result A F → (A → Result B F) → Result B F
+(Ok x) >>= f = f x
+(Err e) >>= f = Err e
+
+-- what each of a list gives, in order, or the first fault
+abbrev pub each : {A B F : Type 0} → (A → Result B F) → List A → Result (List B) F
+each f [] = Ok []
+each f (t ∷ ts) = f t >>= λ x. each f ts >>= λ xs. Ok (x ∷ xs)
+
+-- what is read already, before what is still to be read
+abbrev pub with_front : {A F : Type 0} → List A → Result (List A) F → Result (List A) F
+with_front front read = read >>= λ xs. Ok (front ++ xs)
+
+-- a call answered the value that reading gives, seen by view, or a stop that fits the reading
+abbrev pub GivesBy : {X Y S F : Type 0} → (S → Result Y F → Type 0) → (X → Y) → Result X S → Result Y F → Type 0
+GivesBy fails view (Ok x) reading = reading ≡ Ok (view x)
+GivesBy fails view (Err e) reading = fails e reading
+
+-- want of memory is free, and a fault is the one of the reading
+abbrev pub Fails : {Y : Type 0} → Stop → Result Y Spot → Type 0
+Fails NoMemory reading = Unit {0}
+Fails (At spot) reading = reading ≡ Err spot
+
+-- a call that answers a Stop gives this reading
+abbrev pub Gives : {X Y : Type 0} → (X → Y) → Result X Stop → Result Y Spot → Type 0
+Gives view result reading = GivesBy Fails view result reading

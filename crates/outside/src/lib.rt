@@ -1,0 +1,14 @@
+//! What stands between the builder and the world: the small types that every crate names, and the
+//! traits through which it reads, writes and speaks, each with its forms over memory and over the
+//! host.
+#![tactic(auto)]
+
+mod fault;
+mod list;
+mod text;
+mod traits;
+
+pub use fault::{Failed, Fault, Kind, NoMemory, Spot, Stop};
+pub use list::Seq;
+pub use text::Name;
+pub use traits::{Found, Outputs, ReadError, Say, Sources};
