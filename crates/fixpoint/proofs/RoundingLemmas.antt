@@ -1,8 +1,8 @@
 -- Rounding by its bounds, which are all that the code and the crates above need of `round_up`.
 -- `omega` reads a signed number z as `up z - down z`.
-use Rattle.std.proofs.Common.{◌≡◌, ℕ, ℤ, zero, suc, pos, negsuc, neg_ℤ, ◌+ℤ◌, ◌-ℤ◌, ◌*ℤ◌, ◌≤ℤ◌, ◌<ℤ◌, ◌+◌, ◌*◌, ◌/◌, ◌<◌, ◌≤◌, ◌⊎◌, inl, inr, arith}
+use Rattle.std.proofs.Common.{◌≡◌, ℕ, ℤ, suc, pos, negsuc, neg_ℤ, ◌+ℤ◌, ◌-ℤ◌, ◌*ℤ◌, ◌≤ℤ◌, ◌<ℤ◌, ◌+◌, ◌*◌, ◌<◌, ◌≤◌, arith}
 use Rattle.std.proofs.lemmas.Int.{ints}
-use Rattle.std.proofs.Math.Nat.{mul-le-mul_right, lt_of_mul-lt-mul_right}
+use Rattle.std.proofs.Math.Nat.{mul-le-mul_left, le-mul_of_pos_right, lt_of_mul-lt-mul_right}
 use Rattle.std.specs.Int.{int_div_euclid}
 use Rattle.std.specs.Int.RustNames.{unsigned_abs}
 use borrow.Author.Differences.{up, down}
@@ -41,7 +41,7 @@ unfolding round_up
 round_up_bounds n d some =
     let floor = floor_parts (pos 2 *ℤ n +ℤ pos d) (2 * d) (omega arith) in
     parts_of_nearest n d (int_div_euclid (pos 2 *ℤ n +ℤ pos d) (pos (2 * d)))
-      (omega (arith, ints, twice n, floor)) (omega (arith, ints, twice n, floor))
+    (omega (arith, ints, twice n, floor)) (omega (arith, ints, twice n, floor))
 
 -- of two products by one number, the lesser one's factor is the lesser
 factor_le : (a b k : ℕ) → a * k < b * k + k → a ≤ b
@@ -61,30 +61,72 @@ round_up_is n d r some near =
     let rounded = round_up_bounds n d some in
     omega (arith, ints, nearest_le n d (round_up n d) r rounded near, nearest_le n d r (round_up n d) near rounded)
 
--- a bound on both sides of 0 is kept
-pub round_up_within : (least n greatest : ℤ) (d : ℕ) → 0 < d → least ≤ℤ pos 0 → pos 0 ≤ℤ greatest → least ≤ℤ n → n ≤ℤ greatest → (least ≤ℤ round_up n d) × (round_up n d ≤ℤ greatest)
-round_up_within least n greatest d some below above low high = ?
+-- a bound above that is not negative is kept
+pub round_up_at_most : (n : ℤ) (d greatest : ℕ) → 0 < d → n ≤ℤ pos greatest → round_up n d ≤ℤ pos greatest
+round_up_at_most n d greatest some high =
+    let near = nearest_parts n d (round_up n d) (round_up_bounds n d some) in
+    let grown : greatest ≤ greatest * d = le-mul_of_pos_right greatest some in
+    let step : up (round_up n d) ≤ greatest + down (round_up n d) =
+    factor_le (up (round_up n d)) (greatest + down (round_up n d)) d (omega (arith, ints, near)) in
+    omega (arith, ints)
 
--- a part of s: the fraction a / b of a number that is not negative, where the fraction is at most 1
+-- and so is one below that is not positive
+pub round_up_at_least : (n : ℤ) (d least : ℕ) → 0 < d → neg_ℤ (pos least) ≤ℤ n → neg_ℤ (pos least) ≤ℤ round_up n d
+round_up_at_least n d least some low =
+    let near = nearest_parts n d (round_up n d) (round_up_bounds n d some) in
+    let grown : least ≤ least * d = le-mul_of_pos_right least some in
+    let step : down (round_up n d) ≤ least + up (round_up n d) =
+    factor_le (down (round_up n d)) (least + up (round_up n d)) d (omega (arith, ints, near)) in
+    omega (arith, ints)
+
+-- what follows of one product at most another, nearest to the first over b
+scaled_at_most : (s a b : ℕ) → 0 < b → a ≤ b → round_up (pos s *ℤ pos a) b ≤ℤ pos s
+scaled_at_most s a b some fraction =
+    let near = nearest_parts (pos s *ℤ pos a) b (round_up (pos s *ℤ pos a) b) (round_up_bounds (pos s *ℤ pos a) b some) in
+    let more : s * a ≤ s * b = mul-le-mul_left s fraction in
+    let step : up (round_up (pos s *ℤ pos a) b) ≤ s + down (round_up (pos s *ℤ pos a) b) =
+    factor_le (up (round_up (pos s *ℤ pos a) b)) (s + down (round_up (pos s *ℤ pos a) b)) b (omega (arith, ints, near)) in
+    omega (arith, ints)
+
+-- a part of s: the fraction a / b, at most 1, of a number that is not negative
 pub scaled_within : (s a : ℤ) (b : ℕ) → 0 < b → pos 0 ≤ℤ s → pos 0 ≤ℤ a → a ≤ℤ pos b → (pos 0 ≤ℤ round_up (s *ℤ a) b) × (round_up (s *ℤ a) b ≤ℤ s)
-scaled_within s a b some whole part fraction = ?
+scaled_within (pos s) (pos a) b some whole part fraction =
+    (round_up_at_least (pos s *ℤ pos a) b 0 some (omega (arith, ints)), scaled_at_most s a b some (omega (arith, ints)))
+scaled_within (pos s) (negsuc a) b some whole part fraction = absurd (omega (arith, ints))
+scaled_within (negsuc s) a b some whole part fraction = absurd (omega (arith, ints))
 
 -- the whole of it
 pub scaled_by_one : (s : ℤ) (b : ℕ) → 0 < b → round_up (s *ℤ pos b) b ≡ s
 scaled_by_one s b some =
     round_up_is (s *ℤ pos b) b s some
-      (parts_of_nearest (s *ℤ pos b) b s (omega (arith, ints, times_pos s b)) (omega (arith, ints, times_pos s b)))
+    (parts_of_nearest (s *ℤ pos b) b s (omega (arith, ints, times_pos s b)) (omega (arith, ints, times_pos s b)))
 
 -- and nothing of it
 pub scaled_by_zero : (s : ℤ) (b : ℕ) → 0 < b → round_up (s *ℤ pos 0) b ≡ pos 0
 scaled_by_zero s b some =
     round_up_is (s *ℤ pos 0) b (pos 0) some
-      (parts_of_nearest (s *ℤ pos 0) b (pos 0) (omega (arith, ints, times_pos s 0)) (omega (arith, ints, times_pos s 0)))
+    (parts_of_nearest (s *ℤ pos 0) b (pos 0) (omega (arith, ints, times_pos s 0)) (omega (arith, ints, times_pos s 0)))
+
+-- the size of a number between 0 and a bound
+size_above : (z : ℤ) (bound : ℕ) → pos 0 ≤ℤ z → z ≤ℤ pos bound → unsigned_abs z ≤ bound
+size_above (pos z) bound low high = omega (arith, ints)
+size_above (negsuc z) bound low high = absurd (omega (arith, ints))
+
+size_below : (z : ℤ) (bound : ℕ) → neg_ℤ (pos bound) ≤ℤ z → z ≤ℤ pos 0 → unsigned_abs z ≤ bound
+size_below (pos z) bound low high = omega (arith, ints)
+size_below (negsuc z) bound low high = omega (arith, ints)
 
 -- rounding makes no number greater in size
 pub round_size : (n : ℤ) (d : ℕ) → 0 < d → unsigned_abs (round_up n d) ≤ unsigned_abs n
-round_size n d some = ?
+round_size (pos n) d some =
+    size_above (round_up (pos n) d) n (round_up_at_least (pos n) d 0 some (omega (arith, ints))) (round_up_at_most (pos n) d n some (omega (arith, ints)))
+round_size (negsuc n) d some =
+    size_below (round_up (negsuc n) d) (suc n) (round_up_at_least (negsuc n) d (suc n) some (omega (arith, ints))) (round_up_at_most (negsuc n) d 0 some (omega (arith, ints)))
 
 -- what is left of 65536 m after t, divided with a tie going down, brings m back
 pub comes_back : (t m : ℤ) → round_up (t +ℤ (pos 65536 *ℤ round_down ((pos 65536 *ℤ m) -ℤ t) 65536)) 65536 ≡ m
-comes_back t m = ?
+comes_back t m =
+    let u = round_up (neg_ℤ ((pos 65536 *ℤ m) -ℤ t)) 65536 in
+    let near = nearest_parts (neg_ℤ ((pos 65536 *ℤ m) -ℤ t)) 65536 u (round_up_bounds (neg_ℤ ((pos 65536 *ℤ m) -ℤ t)) 65536 (omega arith)) in
+    round_up_is (t +ℤ (pos 65536 *ℤ neg_ℤ u)) 65536 m (omega arith)
+    (parts_of_nearest (t +ℤ (pos 65536 *ℤ neg_ℤ u)) 65536 m (omega (arith, ints, near)) (omega (arith, ints, near)))

@@ -61,7 +61,9 @@ impl<const F: u32> Add for Fix<F> {
     ghost add_gives = { λ x y r. r ≡ x +ℤ y };
 
     fn add(self, rhs: Fix<F>) -> Fix<F> {
-        Fix { raw: self.raw + rhs.raw }
+        Fix {
+            raw: self.raw + rhs.raw,
+        }
     }
 }
 
@@ -73,7 +75,9 @@ impl<const F: u32> Sub for Fix<F> {
     ghost sub_gives = { λ x y r. r ≡ x -ℤ y };
 
     fn sub(self, rhs: Fix<F>) -> Fix<F> {
-        Fix { raw: self.raw - rhs.raw }
+        Fix {
+            raw: self.raw - rhs.raw,
+        }
     }
 }
 
