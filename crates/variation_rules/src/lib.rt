@@ -1,0 +1,16 @@
+//! What glyph variation data mean: the scalar of a region at a location, packed point numbers and
+//! packed deltas, tuple variations, inferred deltas, and the outline that they draw over a default
+//! drawing. It follows OpenType 1.9, the chapters "Font variations overview" and "gvar", and says what
+//! the bytes mean, not how they are written.
+//!
+//! Beside the definitions, which stand in `specs/`, is a plain reader, kept simple and slow, that
+//! tests compare with.
+#![tactic(auto)]
+
+mod region;
+mod runs;
+mod tuple;
+
+pub use region::Triple;
+pub use runs::{DeltaClass, PointClass};
+pub use tuple::TupleVariation;
