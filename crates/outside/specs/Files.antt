@@ -1,5 +1,5 @@
 -- What files hold, as a function from a path to its bytes, and what a write makes of them.
-use Rattle.std.specs.Prelude.{◌≡◌, ℕ, ◌+◌, ◌-◌, ◌^◌, ◌≤◌, ◌<◌, min, List, [], ◌++◌, Option, Some, None, Result, Ok, Err, unwrap_or, if◌then◌else◌}
+use Rattle.std.specs.Prelude.{◌≡◌, ℕ, ◌+◌, ◌-◌, ◌^◌, ◌≤◌, ◌<◌, min, max, List, [], ◌++◌, Option, Some, None, Result, Ok, Err, unwrap_or, if◌then◌else◌}
 use Rattle.std.specs.Str.{bytes_eq}
 
 -- the bytes of each path, None where there is no file
@@ -23,9 +23,9 @@ add files (Some path) bytes = put files path (content files path ++ bytes)
 abbrev pub IsFront : List ℕ → List ℕ → Type 0
 IsFront front whole = (rest : List ℕ) × (front ++ rest ≡ whole)
 
--- a count of faults rose; one that stands at the end of 64 bits counts as risen
+-- a count of faults rose; one that stands at the end of 64 bits counts as risen where it doesn't fall
 abbrev pub HasRisen : ℕ → ℕ → Type 0
-HasRisen before after = min (before + 1) (2 ^ 64 - 1) ≤ after
+HasRisen before after = max before (min (before + 1) (2 ^ 64 - 1)) ≤ after
 
 -- a count of faults never falls, and rises with each failure
 abbrev pub Counts : {X E : Type 0} → ℕ → ℕ → Result X E → Type 0

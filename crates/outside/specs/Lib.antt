@@ -2,3 +2,5 @@ pub mod Files
 pub mod Kinds
 pub mod Reading
 pub mod Found
+pub mod Said
+pub mod Piece

@@ -4,11 +4,13 @@
 #![tactic(auto)]
 
 mod fault;
+mod line;
 mod list;
 mod text;
 mod traits;
 
 pub use fault::{Failed, Fault, Kind, NoMemory, Spot, Stop};
+pub use line::{Piece, say_all};
 pub use list::Seq;
 pub use text::Name;
 pub use traits::{Found, Outputs, ReadError, Say, Sources};

@@ -1,0 +1,102 @@
+-- A text that is said in pieces is said as one: nothing is said before the first piece, a piece follows
+-- what was said, and a piece that fails cuts the whole short.
+use Rattle.std.proofs.Common.{◌≡◌, ℕ, ◌+◌, ◌≤◌, ◌<◌, List, [], ◌++◌, take, drop, get_or, flat_map, length, Result, Ok, Err, refl, sym, subst, ◌∙◌, ap, append_assoc, length-append, arith}
+use Rattle.std.proofs.lemmas.List.{append-nil, drop_more, take-append-drop}
+use Rattle.std.proofs.lemmas.Grind.{flat_map-append}
+use Rattle.outside.specs.Files.{IsFront, HasRisen}
+use Rattle.outside.specs.Said.{Says}
+
+-- a front of a list is a front of what goes on from there
+pub front_before : (a t c : List ℕ) → IsFront (a ++ t) c → IsFront a c
+front_before a t c (rest, e) = (t ++ rest, sym (append_assoc a t rest) ∙ e)
+
+-- a front stays one where the whole goes on
+pub front_of_longer : (c a t u : List ℕ) → IsFront c (a ++ t) → IsFront c (a ++ (t ++ u))
+front_of_longer c a t u (rest, e) =
+    (rest ++ u, sym (append_assoc c rest u) ∙ ap (λ l. l ++ u) e ∙ append_assoc a t u)
+
+-- what is cut short after a text is cut short after what came before the text
+pub cut_after : (a t u b c : List ℕ) → b ≡ a ++ t → IsFront b c × IsFront c (b ++ u) → IsFront a c × IsFront c (a ++ (t ++ u))
+cut_after a t u b c e (before, (rest, k)) =
+    (front_before a t c (rw e at before), (rest, k ∙ ap (λ l. l ++ u) e ∙ append_assoc a t u))
+
+-- a room that has no place for the second text after the first has none for both
+pub full_after : (a t u b : List ℕ) (room_a room_b : ℕ) → b ≡ a ++ t → room_b ≡ room_a
+    → room_b < length b + length u → room_a < length a + length (t ++ u)
+full_after a t u b room_a room_b e k full = omega (arith, length-append a t, length-append t u, ap length e)
+
+-- a count that didn't fall and then rose has risen
+pub risen_after : (a b c : ℕ) → a ≤ b → HasRisen b c → HasRisen a c
+risen_after a b c h k = omega arith
+
+-- nothing is said where nothing was done
+pub says_nothing : {X V E : Type 0} (tells : X → Type 0) (said : X → List ℕ) (faults : X → ℕ) (is_sure : X → Type 0) (room : X → ℕ) (s : X) (v : V)
+    → Says {E = E} tells said faults is_sure room s s [] (Ok v)
+says_nothing tells said faults is_sure room s v = record {
+  told = λ h. h;
+  counted = omega arith;
+  whole = λ _. sym (append-nil (said s));
+  front = λ _. tt;
+  risen = tt;
+  sure = λ h. (h, refl);
+  full = λ _ _. tt;
+}
+
+-- a text that is said after another: together they are said, whole or cut short in the second
+pub says_then : {X V W E F : Type 0} {tells : X → Type 0} {said : X → List ℕ} {faults : X → ℕ} {is_sure : X → Type 0} {room : X → ℕ} {a b c : X} {t u : List ℕ} {v : V} (r : Result W F)
+    → Says {E = E} tells said faults is_sure room a b t (Ok v)
+    → Says tells said faults is_sure room b c u r
+    → Says tells said faults is_sure room a c (t ++ u) r
+says_then {said} {a} {t} {u} (Ok w) one two = record {
+  told = λ h. two.told (one.told h);
+  counted = omega arith;
+  whole = λ h. two.whole (one.told h) ∙ ap (λ l. l ++ u) (one.whole h) ∙ append_assoc (said a) t u;
+  front = λ _. tt;
+  risen = tt;
+  sure = λ h. let b_sure = one.sure h in let c_sure = two.sure b_sure.0 in (c_sure.0, c_sure.1 ∙ b_sure.1);
+  full = λ _ _. tt;
+}
+says_then {said} {faults} {room} {a} {b} {c} {t} {u} (Err f) one two = record {
+  told = λ h. two.told (one.told h);
+  counted = omega arith;
+  whole = λ _. tt;
+  front = λ h. cut_after (said a) t u (said b) (said c) (one.whole h) (two.front (one.told h));
+  risen = risen_after (faults a) (faults b) (faults c) one.counted two.risen;
+  sure = λ h. let b_sure = one.sure h in let c_sure = two.sure b_sure.0 in (c_sure.0, c_sure.1 ∙ b_sure.1);
+  full = λ h k. full_after (said a) t u (said b) (room a) (room b) (one.whole k) (one.sure h).1
+      (two.full (one.sure h).0 (one.told k));
+}
+
+-- a text that is cut short is a longer one that is cut short, whatever error says so
+pub says_cut : {X V W E F : Type 0} {tells : X → Type 0} {said : X → List ℕ} {faults : X → ℕ} {is_sure : X → Type 0} {room : X → ℕ} {a b : X} {t : List ℕ} {e : E} (f : F) (u : List ℕ)
+    → Says {V = V} tells said faults is_sure room a b t (Err e)
+    → Says {V = W} tells said faults is_sure room a b (t ++ u) (Err f)
+says_cut {said} {a} {b} {t} f u cut = record {
+  told = cut.told;
+  counted = cut.counted;
+  whole = λ _. tt;
+  front = λ h. ((cut.front h).0, front_of_longer (said b) (said a) t u (cut.front h).1);
+  risen = cut.risen;
+  sure = cut.sure;
+  full = λ h k. let short = cut.full h k in omega (arith, length-append t u);
+}
+
+-- the texts of the parts before one, of that one and of those after it are the text of all
+pub flat_map_parts : {P : Type 0} (text : P → List ℕ) (parts : List P) (i : ℕ) (d : P) → i < length parts
+    → (flat_map text (take i parts) ++ text (get_or parts i d)) ++ flat_map text (drop (i + 1) parts) ≡ flat_map text parts
+flat_map_parts text parts i d h =
+    append_assoc (flat_map text (take i parts)) (text (get_or parts i d)) (flat_map text (drop (i + 1) parts))
+    ∙ ap (λ rest. flat_map text (take i parts) ++ flat_map text rest) (sym (drop_more parts i d h))
+    ∙ sym (flat_map-append text (take i parts) (drop i parts))
+    ∙ ap (flat_map text) (take-append-drop i parts)
+
+-- where one part fails after all before it were said, the text of all parts is cut short
+pub says_cut_at : {P X V W E F G : Type 0} {tells : X → Type 0} {said : X → List ℕ} {faults : X → ℕ} {is_sure : X → Type 0} {room : X → ℕ} {a b c : X} {v : V} {f : F} (g : G)
+    (text : P → List ℕ) (parts : List P) (i : ℕ) (d : P) → i < length parts
+    → Says {E = E} tells said faults is_sure room a b (flat_map text (take i parts)) (Ok v)
+    → Says {V = W} tells said faults is_sure room b c (text (get_or parts i d)) (Err f)
+    → Says {V = W} tells said faults is_sure room a c (flat_map text parts) (Err g)
+says_cut_at {W} {tells} {said} {faults} {is_sure} {room} {a} {c} g text parts i d h before failed =
+    subst (λ whole. Says {V = W} tells said faults is_sure room a c whole (Err g))
+    (flat_map_parts text parts i d h)
+    (says_cut g (flat_map text (drop (i + 1) parts)) (says_then _ before failed))
