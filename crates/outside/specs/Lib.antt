@@ -1,6 +1,10 @@
+pub mod Counting
 pub mod Files
-pub mod Kinds
-pub mod Reading
+pub mod FirstAt
 pub mod Found
-pub mod Said
+pub mod Kinds
+pub mod MemorySources
 pub mod Piece
+pub mod Reading
+pub mod Said
+pub mod SureSources

@@ -3,14 +3,21 @@
 //! host.
 #![tactic(auto)]
 
+mod failures;
 mod fault;
 mod line;
 mod list;
+mod memory_sources;
+mod sure_sources;
+#[cfg(test)]
+mod tests;
 mod text;
 mod traits;
 
 pub use fault::{Failed, Fault, Kind, NoMemory, Spot, Stop};
 pub use line::{Piece, say_all};
 pub use list::Seq;
+pub use memory_sources::MemorySources;
+pub use sure_sources::SureSources;
 pub use text::Name;
 pub use traits::{Found, Outputs, ReadError, Say, Sources};

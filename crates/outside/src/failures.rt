@@ -1,0 +1,34 @@
+ghost use Rattle.std.specs.Prelude.{◌≡◌, ◌↔◌, IsTrue, Contains};
+ghost use Rattle.outside.specs.Counting.{next_number};
+
+use crate::list::Seq;
+
+/// The calls of a form in memory that are to fail, by their numbers from 0, and the number of the next
+/// call. That number stops behind the last one that a list can name.
+#[derive(Drop)]
+pub(crate) struct Failures {
+    pub(crate) failing: Seq<u64>,
+    pub(crate) next: u128,
+}
+
+impl Failures {
+    /// The calls with these numbers are to fail; none was made yet.
+    pub(crate) fn new(failing: Seq<u64>) -> Failures
+        ensures { result ≡ record { failing = failing; next = 0 } }
+    {
+        Failures { failing, next: 0 }
+    }
+
+    /// Counts a call, and answers whether it is to fail.
+    pub(crate) fn is_due(&mut self) -> bool
+        ensures due { IsTrue result ↔ Contains self.old.failing self.old.next }
+        ensures next { self.new ≡ record self.old { next = next_number self.old.next } }
+    {
+        let call = self.next;
+        self.next = call.saturating_add(1).min(1 << 64);
+        self.failing
+            .as_slice()
+            .iter()
+            .any(|number| u128::from(*number) == call)
+    }
+}
