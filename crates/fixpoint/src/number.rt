@@ -1,7 +1,10 @@
-ghost use Rattle.std.specs.Prelude.{◌≡◌, ℕ, ℤ, pos, neg_ℤ, ◌+ℤ◌, ◌-ℤ◌, ◌^◌, ◌≤◌};
+ghost use Rattle.std.specs.Option.{SomeIff};
+ghost use Rattle.fixpoint.specs.Rounding.{round_up};
+ghost use Rattle.std.specs.Prelude.{◌*ℤ◌, ◌≤ℤ◌, ◌≡◌, ℕ, ℤ, pos, neg_ℤ, ◌+ℤ◌, ◌-ℤ◌, ◌^◌, ◌≤◌};
 ghost use Rattle.std.specs.Int.RustNames.{FitsSigned};
 ghost use mir.Syntax.{w32};
 
+use crate::rounding::mul_div_up;
 use std::marker::Model;
 use std::ops::{Add, Neg, Sub};
 
@@ -51,6 +54,27 @@ impl<const F: u32> Fix<F> {
     {
         Fix { raw: 1 << F }
     }
+
+    /// The same number with `G` binary places, rounded to the nearest such number, a tie going up;
+    /// `None` exactly where that number does not fit.
+    pub fn refrac<const G: u32>(self) -> Option<Fix<G>>
+        requires from { F ≤ 30 }
+        requires to { G ≤ 30 }
+        ensures { let raw = round_up (self.entry *ℤ pos (2 ^ G)) (2 ^ F) in
+            SomeIff result (FitsSigned w32 raw) raw }
+    {
+        let raw = mul_div_up(self.wide(), unit(G), unit(F));
+        let raw = i32::try_from(raw).ok()?;
+        Some(Fix { raw })
+    }
+}
+
+// The raw number of 1 with so many binary places.
+fn unit(places: u32) -> i64
+    requires { places ≤ 30 }
+    ensures { result ≡ pos (2 ^ places) }
+{
+    1 << places
 }
 
 impl<const F: u32> Add for Fix<F> {
