@@ -116,3 +116,50 @@ impl<const F: u32> Neg for Fix<F> {
         Fix { raw: -self.raw }
     }
 }
+
+#[cfg(test)]
+mod tests {
+    use super::*;
+
+    // Each row: a raw number with 2 places, and its raw number with 4, which fits or does not.
+    #[test]
+    fn changes_places(rt: HostRuntime) {
+        let finer = [
+            (-536870913, None),
+            (-536870912, Some(i32::MIN)),
+            (-1, Some(-4)),
+            (536870911, Some(2147483644)),
+            (536870912, None),
+        ];
+        for (raw, want) in finer {
+            let found = Fix::<2>::from_raw(raw).refrac::<4>();
+            assert_eq!(rt;
+                found.map(|fix| fix.raw()),
+                want,
+                "{raw} with two more places"
+            );
+        }
+
+        // The same from 16 places to 14, with ties of both signs.
+        let coarser = [
+            (i32::MIN, -536870912),
+            (-6, -1),
+            (-3, -1),
+            (-2, 0),
+            (2, 1),
+            (5, 1),
+            (6, 2),
+            (i32::MAX, 536870912),
+        ];
+        for (raw, want) in coarser {
+            let found = Fix::<16>::from_raw(raw).refrac::<14>();
+            assert_eq!(rt;
+                found.map(|fix| fix.raw()),
+                Some(want),
+                "{raw} with two places fewer"
+            );
+        }
+        assert_eq!(rt; Fix::<30>::one().raw(), 1073741824);
+        assert_eq!(rt; Fix::<14>::one().refrac::<16>(), Some(Fix::one()));
+    }
+}
