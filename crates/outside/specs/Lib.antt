@@ -4,3 +4,4 @@ pub mod Reading
 pub mod Found
 pub mod Said
 pub mod Piece
+pub mod Stream

@@ -4,12 +4,15 @@
 #![tactic(auto)]
 
 mod fault;
+mod host;
 mod line;
 mod list;
+mod stream;
 mod text;
 mod traits;
 
 pub use fault::{Failed, Fault, Kind, NoMemory, Spot, Stop};
+pub use host::{HostOutputs, HostSay, HostSources};
 pub use line::{Piece, say_all};
 pub use list::Seq;
 pub use text::Name;
