@@ -8,3 +8,4 @@ pub mod Piece
 pub mod Reading
 pub mod Said
 pub mod SureSources
+pub mod Stream

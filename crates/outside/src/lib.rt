@@ -5,9 +5,11 @@
 
 mod failures;
 mod fault;
+mod host;
 mod line;
 mod list;
 mod memory_sources;
+mod stream;
 mod sure_sources;
 #[cfg(test)]
 mod tests;
@@ -15,6 +17,7 @@ mod text;
 mod traits;
 
 pub use fault::{Failed, Fault, Kind, NoMemory, Spot, Stop};
+pub use host::{HostOutputs, HostSay, HostSources};
 pub use line::{Piece, say_all};
 pub use list::Seq;
 pub use memory_sources::MemorySources;
