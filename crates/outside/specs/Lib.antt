@@ -6,3 +6,6 @@ pub mod Counting
 pub mod FirstAt
 pub mod SureSources
 pub mod MemorySources
+pub mod Stored
+pub mod SureSay
+pub mod MemorySay

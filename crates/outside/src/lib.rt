@@ -6,7 +6,10 @@
 mod failures;
 mod fault;
 mod list;
+mod memory_say;
 mod memory_sources;
+mod room;
+mod sure_say;
 mod sure_sources;
 #[cfg(test)]
 mod tests;
@@ -15,7 +18,9 @@ mod traits;
 
 pub use fault::{Failed, Fault, Kind, NoMemory, Spot, Stop};
 pub use list::Seq;
+pub use memory_say::MemorySay;
 pub use memory_sources::MemorySources;
+pub use sure_say::SureSay;
 pub use sure_sources::SureSources;
 pub use text::Name;
 pub use traits::{Found, Outputs, ReadError, Say, Sources};
