@@ -1,2 +1,3 @@
 pub mod Puts
 mod Cut
+mod PlaceLists

@@ -9,3 +9,4 @@ pub mod MemorySources
 pub mod Stored
 pub mod SureSay
 pub mod MemorySay
+pub mod Placed

@@ -8,6 +8,8 @@ mod fault;
 mod list;
 mod memory_say;
 mod memory_sources;
+mod place;
+mod places;
 mod room;
 mod sure_say;
 mod sure_sources;
