@@ -9,3 +9,7 @@ pub mod Reading
 pub mod Said
 pub mod SureSources
 pub mod Stream
+pub mod Stored
+pub mod SureSay
+pub mod MemorySay
+pub mod Placed
