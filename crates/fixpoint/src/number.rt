@@ -8,9 +8,10 @@ use crate::rounding::mul_div_up;
 use std::marker::Model;
 use std::ops::{Add, Neg, Sub};
 
-/// A signed fixed-point number with `F` binary places, as OpenType's `F2DOT14` (`F` is 14) and
-/// `Fixed` (`F` is 16): it means its raw number / 2^`F`. Contracts see the raw number. Equality, order
-/// and hash are those of the raw number, and so of the number meant.
+/// A signed fixed-point number with `F` binary places, at most 30: it means its raw number / 2^`F`.
+/// OpenType's `F2DOT14` has 14 places and its `Fixed` 16 ("Data Types"). Contracts see the raw number.
+/// Equality, order and hash are those of the raw number, and so of the number meant; sums, differences
+/// and negations are those of the numbers, and take a raw result that fits.
 #[derive(Clone, Copy, Debug, PartialEq, Eq, PartialOrd, Ord, Hash)]
 pub struct Fix<const F: u32> {
     raw: i32,
