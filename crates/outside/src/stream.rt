@@ -107,11 +107,10 @@ pub(crate) fn write_whole<W: Write>(writer: &mut W, bytes: &[u8]) -> Result<(), 
 {
     let mut rest = bytes;
     while !rest.is_empty() {
-        let count = write_some(writer, rest)?;
-        if count == 0 {
-            return Err(Failed);
+        match write_some(writer, rest)? {
+            0 => return Err(Failed),
+            count => rest = &rest[count..],
         }
-        rest = &rest[count..];
     }
     Ok(())
 }

@@ -2,6 +2,7 @@ ghost use Rattle.std.specs.Prelude.{◌≤◌, IfOk};
 
 use super::*;
 use std::io::{Read, Write};
+use std::path::PathBuf;
 use std::test::Fail;
 use std::{env, process};
 
@@ -16,53 +17,71 @@ fn answer(found: Result<Found, ReadError>) -> (&'static str, u64) {
     }
 }
 
-#[test]
-fn reaches_the_files_of_the_host(rt: HostRuntime) -> Result<(), Fail> {
-    let name = format!(in rt.alloc(); "outside-test-{}", process::id(rt.process()))?;
-    let folder = env::temp_dir(&rt)?;
-    let path = folder.join(rt.alloc(), name.as_str())?;
-    let below = path.join(rt.alloc(), "file")?;
+// Whether these bytes were found.
+fn holds(found: Result<Found, ReadError>, bytes: &[u8]) -> bool {
+    match found {
+        Ok(Found::Bytes(found)) => found.as_slice() == bytes,
+        _ => false,
+    }
+}
 
-    // A file is made, emptied and written in two pieces, the first longer than one read.
-    let mut outputs = HostOutputs::new(&rt);
-    outputs.begin(path.as_str())?;
+// A path of this test run's own.
+fn temporary(rt: &HostRuntime, name: &str) -> io::Result<PathBuf> {
+    let own = process::id(rt.process());
+    let name = format!(in rt.alloc(); "outside-{own}-{name}")?;
+    Ok(env::temp_dir(rt)?.join(rt.alloc(), name.as_str())?)
+}
+
+// Writes a file in two pieces, the first longer than one read.
+fn write_pieces(outputs: &mut HostOutputs<&HostRuntime>, path: &str) -> Result<(), Failed> {
+    outputs.begin(path)?;
     outputs.append(b"old")?;
-    outputs.begin(path.as_str())?;
+    outputs.begin(path)?;
     outputs.append(&[7; 5000])?;
-    outputs.append(b"end")?;
-    assert_eq!(rt; outputs.faults, 0);
-    let written = fs::read(&rt, path.as_path())?;
+    outputs.append(b"end")
+}
+
+#[test]
+fn writes_files_of_the_host(rt: HostRuntime) -> Result<(), Fail> {
+    let path = temporary(&rt, "written")?;
+    let mut outputs = HostOutputs::new(&rt);
+    write_pieces(&mut outputs, path.as_str())?;
+    let written = fs::read(&rt, path.as_str())?;
+    fs::remove_file(&rt, path.as_str())?;
     assert_eq!(rt; written.len(), 5003);
     assert_eq!(rt; written.ends_with(&[7, b'e', b'n', b'd']), true);
+    assert_eq!(rt; outputs.begin("/"), Err(Failed), "a folder isn't written");
+    assert_eq!(rt; outputs.faults, 1);
+    Ok(())
+}
 
-    // A folder isn't written, and nothing lies below a file.
-    assert_eq!(rt; outputs.begin(folder.as_str()), Err(Failed));
-    assert_eq!(rt; outputs.begin(below.as_str()), Err(Failed));
-    assert_eq!(rt; outputs.faults, 2);
-
+#[test]
+fn reads_files_of_the_host(rt: HostRuntime) -> Result<(), Fail> {
+    let path = temporary(&rt, "read")?;
+    write_pieces(&mut HostOutputs::new(&rt), path.as_str())?;
     let mut sources = HostSources::new(&rt);
-    for (path, limit, want, faults) in [
-        (path.as_str(), 5003, ("bytes", 5003), 0),
-        (path.as_str(), usize::MAX, ("bytes", 5003), 0),
-        (path.as_str(), 5002, ("too long", 5003), 0),
-        (path.as_str(), 0, ("too long", 5003), 0),
-        ("", 5003, ("absent", 0), 0),
-        (folder.as_str(), 5003, ("failed", 0), 1),
-        (below.as_str(), 5003, ("failed", 0), 2),
+    for (path, limit, want) in [
+        (path.as_str(), 5003, ("bytes", 5003)),
+        (path.as_str(), usize::MAX, ("bytes", 5003)),
+        (path.as_str(), 5002, ("too long", 5003)),
+        (path.as_str(), 0, ("too long", 5003)),
+        ("", 5003, ("absent", 0)),
+        ("/", 5003, ("failed", 0)),
     ] {
         let found = answer(sources.read(rt.alloc(), path, limit));
         assert_eq!(rt; found, want, "at {path} within {limit}");
-        assert_eq!(rt; sources.faults, faults, "at {path} within {limit}");
     }
-    let read = sources.read(rt.alloc(), path.as_str(), 6000);
-    fs::remove_file(&rt, path.as_path())?;
-    match read {
-        Ok(Found::Bytes(bytes)) => assert_eq!(rt; bytes.as_slice(), written.as_slice()),
-        _ => assert!(rt; false),
-    }
+    let written = fs::read(&rt, path.as_str())?;
+    assert!(rt; holds(sources.read(rt.alloc(), path.as_str(), 6000), &written));
+    fs::remove_file(&rt, path.as_str())?;
     let gone = answer(sources.read(rt.alloc(), path.as_str(), 5003));
     assert_eq!(rt; gone, ("absent", 0));
+    assert_eq!(rt; sources.faults, 1);
+    Ok(())
+}
 
+#[test]
+fn says_text_by_the_host(rt: HostRuntime) -> Result<(), Fail> {
     let mut say = HostSay::new(&rt);
     say.say(b"said by the host\n")?;
     assert_eq!(rt; say.faults, 0);
