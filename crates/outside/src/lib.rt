@@ -11,6 +11,7 @@ mod memory_sources;
 mod place;
 mod places;
 mod room;
+mod sure_outputs;
 mod sure_say;
 mod sure_sources;
 #[cfg(test)]
@@ -22,6 +23,7 @@ pub use fault::{Failed, Fault, Kind, NoMemory, Spot, Stop};
 pub use list::Seq;
 pub use memory_say::MemorySay;
 pub use memory_sources::MemorySources;
+pub use sure_outputs::SureOutputs;
 pub use sure_say::SureSay;
 pub use sure_sources::SureSources;
 pub use text::Name;
