@@ -1,5 +1,5 @@
 -- A write to the first place with a path, seen by paths.
-use Rattle.std.proofs.Common.{◌≡◌, ◌⊎◌, ℕ, suc, ◌+◌, ◌<◌, ◌≤◌, Bool, true, false, cond, List, [], ◌∷◌, ◌++◌, length, get_or, map, Option, Some, None, refl, sym, ◌∙◌, ap, subst, arith, inl, inr}
+use Rattle.std.proofs.Common.{◌≡◌, ℕ, ◌+◌, ◌<◌, ◌≤◌, Bool, true, false, cond, List, [], ◌∷◌, ◌++◌, length, get_or, map, Option, Some, None, refl, sym, ◌∙◌, ap, subst}
 use Rattle.std.proofs.Math.ListN.{set}
 use Rattle.std.proofs.Math.Seq.{map-set_same}
 use Rattle.std.proofs.lemmas.List.{length-map}
@@ -7,11 +7,12 @@ use Rattle.std.proofs.lemmas.List.Folds.{find_at, find-set, find_past}
 use Rattle.std.proofs.lemmas.List.Quantifiers.{position-Some}
 use Rattle.std.proofs.lemmas.Option.{slice_get-get_or}
 use Rattle.std.proofs.lemmas.Slice.Eq.{bytes_eq-Decides}
-use Rattle.std.specs.Prelude.{bytes_eq, unwrap_or, position, not, nat_lt, option_map, option_and_then, slice_get}
+use Rattle.std.specs.Prelude.{bytes_eq, unwrap_or, position, not, option_map, option_and_then, slice_get}
 use Rattle.std.specs.List.{find, prefix_len, position_or_len}
-use Rattle.outside.specs.Files.{Files, put, content}
+use Rattle.outside.specs.Files.{put, content}
 use Rattle.outside.specs.Stored.{Fits, fitting, fitting_in}
-use Rattle.outside.specs.Placed.{Placed, place_at, held_in, room_in, paths_of, index_of, path_at, IsFirst, Writes}
+use Rattle.outside.specs.FirstAt.{first_room}
+use Rattle.outside.specs.Placed.{Placed, empty_place, place_at, held_in, room_in, paths_of, index_of, path_at, IsFirst, Writes}
 
 -- whether a place has this path
 abbrev pub has_path : List ℕ → Placed → Bool
@@ -42,14 +43,14 @@ pub record FirstAt (places : List Placed) (i : ℕ) (path : List ℕ) (old : Pla
   pub index : i ≡ position_or_len (has_path path) places
 
 pub first_at : (places : List Placed) (i : ℕ) (path : List ℕ) (old : Placed) →
-    index_of (paths_of places) path ≡ Some i → old ≡ get_or places i old → FirstAt places i path (get_or places i old)
+    index_of (paths_of places) path ≡ Some i → old ≡ get_or places i old → FirstAt places i path old
 first_at places i path old e is =
     let found : position (has_path path) places ≡ Some i = sym (index_of-paths places path) ∙ e in
     let here = position-Some (has_path path) places i old found in
     record {
       below = here.0;
-      is = sym (ap (get_or places i) is);
-      path_is = (bytes_eq-Decides (get_or places i old).path path).0 here.1;
+      is = sym is;
+      path_is = (bytes_eq-Decides old.path path).0 (ap (λ (place : Placed). bytes_eq place.path path) is ∙ here.1);
       index = sym (cond-Some _ _ _ found);
     }
 
@@ -75,8 +76,7 @@ place_at-set places i path old new first same q = by_test (bytes_eq path q) refl
 
 -- the first place's file is written, and nothing else
 module _ (places : List Placed) (i : ℕ) (path bytes : List ℕ) (old new : Placed) (first : FirstAt places i path old)
-  (same : new.path ≡ path) (size : new.size ≡ old.size) (held : new.held ≡ Some bytes) where
-
+    (same : new.path ≡ path) (size : new.size ≡ old.size) (held : new.held ≡ Some bytes) where
   files-set : (q : List ℕ) → held_in (set places i new) q ≡ put (held_in places) path bytes q
   files-set q =
       ap (option_and_then (λ (place : Placed). place.held)) (place_at-set places i path old new first same q)
@@ -99,10 +99,10 @@ module _ (places : List Placed) (i : ℕ) (path bytes : List ℕ) (old new : Pla
 
   pub Writes-set : Writes places (set places i new) path bytes
   Writes-set = record {
-      files = λ k q. files-set q k;
-      rooms = λ k q. rooms-set q k;
-      paths = map-set_same (λ (place : Placed). place.path) places i new old (same ∙ sym first.path_is ∙ sym (ap (λ (place : Placed). place.path) first.is));
-    }
+    files = λ k q. files-set q k;
+    rooms = λ k q. rooms-set q k;
+    paths = map-set_same (λ (place : Placed). place.path) places i new old (same ∙ sym first.path_is ∙ sym (ap (λ (place : Placed). place.path) first.is));
+  }
 
 -- the same where the new place is told by the old one
 pub Writes-held : (places : List Placed) (i : ℕ) (path bytes : List ℕ) (old new : Placed) → FirstAt places i path old →
@@ -153,3 +153,33 @@ IsFirst-index_of paths path = by_index (index_of paths path) refl
 -- the path at a first index has that index
 pub index_of-path_at : (paths : List (List ℕ)) (index : Option ℕ) (path : List ℕ) → IsFirst paths index → path_at paths index ≡ Some path → index_of paths path ≡ index
 index_of-path_at paths index path first e = sym (ap (option_and_then (index_of paths)) e) ∙ first
+
+-- a look-up among new places is one among the rooms that they were made for
+pub place_at-empty : (rooms : List (List ℕ × ℕ)) (q : List ℕ) →
+    place_at (map empty_place rooms) q ≡ option_map empty_place (find (λ room. bytes_eq room.0 q) rooms)
+place_at-empty [] q = refl
+place_at-empty (room ∷ rooms) q = by_test (bytes_eq room.0 q) (place_at-empty rooms q)
+  where
+    by_test : (b : Bool) → place_at (map empty_place rooms) q ≡ option_map empty_place (find (λ r. bytes_eq r.0 q) rooms) →
+        cond b (Some (empty_place room)) (place_at (map empty_place rooms) q) ≡ option_map empty_place (cond b (Some room) (find (λ r. bytes_eq r.0 q) rooms))
+    by_test true e = refl
+    by_test false e = e
+
+-- new places hold nothing
+pub held_in-empty : (rooms : List (List ℕ × ℕ)) (q : List ℕ) → held_in (map empty_place rooms) q ≡ None
+held_in-empty rooms q =
+    ap (option_and_then (λ (place : Placed). place.held)) (place_at-empty rooms q) ∙ by_room (find (λ room. bytes_eq room.0 q) rooms)
+  where
+    by_room : (room : Option (List ℕ × ℕ)) → option_and_then (λ (place : Placed). place.held) (option_map empty_place room) ≡ None
+    by_room None = refl
+    by_room (Some room) = refl
+
+-- and have the rooms that they were made for
+pub room_in-empty : (rooms : List (List ℕ × ℕ)) (q : List ℕ) → room_in (map empty_place rooms) q ≡ first_room rooms q
+room_in-empty rooms q =
+    ap (option_map (λ (place : Placed). place.size)) (place_at-empty rooms q) ∙ by_room (find (λ room. bytes_eq room.0 q) rooms)
+  where
+    by_room : (room : Option (List ℕ × ℕ)) →
+        option_map (λ (place : Placed). place.size) (option_map empty_place room) ≡ option_map (λ (r : List ℕ × ℕ). r.1) room
+    by_room None = refl
+    by_room (Some room) = refl

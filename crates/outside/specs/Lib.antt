@@ -13,3 +13,4 @@ pub mod Stored
 pub mod SureSay
 pub mod MemorySay
 pub mod Placed
+pub mod SureOutputs

@@ -1,5 +1,5 @@
 -- Places for files in memory, as a list in which of two equal paths the first counts.
-use Rattle.std.specs.Prelude.{◌≡◌, ℕ, List, map, Option, Some, option_map, option_and_then, bytes_eq, position, slice_get}
+use Rattle.std.specs.Prelude.{◌≡◌, ℕ, List, map, Option, None, option_map, option_and_then, bytes_eq, position, slice_get}
 use Rattle.std.specs.List.{find}
 use Rattle.outside.specs.Files.{Files, put}
 
@@ -42,3 +42,7 @@ pub record Writes (old new : List Placed) (path bytes : List ℕ) : Type 0 where
   pub files : held_in new ≡ put (held_in old) path bytes
   pub rooms : room_in new ≡ room_in old
   pub paths : paths_of new ≡ paths_of old
+
+-- a place with no file
+abbrev pub empty_place : List ℕ × ℕ → Placed
+empty_place room = record { path = room.0; size = room.1; held = None }

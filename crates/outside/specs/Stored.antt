@@ -1,5 +1,6 @@
 -- Bytes in memory that is bounded.
 use Rattle.std.specs.Prelude.{ℕ, ◌+◌, ◌-◌, ◌/◌, ◌≤◌, List, [], length, take, Option, Some, None}
+use Rattle.outside.specs.Files.{Files, content, Exceeds}
 
 -- how many bytes there may be, and the bytes
 pub record Stored : Type 0 where
@@ -23,3 +24,18 @@ Fits (Some room) held more = held + more ≤ room
 abbrev pub fitting_in : Option ℕ → List ℕ → List ℕ → List ℕ
 fitting_in None held piece = []
 fitting_in (Some room) held piece = fitting room held piece
+
+-- what the path that is begun holds and a piece fit its room
+abbrev pub FitsAt : (List ℕ → Option ℕ) → Files → Option (List ℕ) → List ℕ → Type 0
+FitsAt room files None piece = ⊥
+FitsAt room files (Some path) piece = Fits (room path) (length (content files path)) (length piece)
+
+-- or exceed it
+abbrev pub ExceedsAt : (List ℕ → Option ℕ) → Files → Option (List ℕ) → List ℕ → Type 0
+ExceedsAt room files None piece = ⊥
+ExceedsAt room files (Some path) piece = Exceeds (room path) (length (content files path)) (length piece)
+
+-- the front of a piece that fits at the path that is begun
+abbrev pub fitting_at : (List ℕ → Option ℕ) → Files → Option (List ℕ) → List ℕ → List ℕ
+fitting_at room files None piece = []
+fitting_at room files (Some path) piece = fitting_in (room path) (content files path) piece

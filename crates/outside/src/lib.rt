@@ -14,6 +14,7 @@ mod place;
 mod places;
 mod room;
 mod stream;
+mod sure_outputs;
 mod sure_say;
 mod sure_sources;
 #[cfg(test)]
@@ -27,6 +28,7 @@ pub use line::{Piece, say_all};
 pub use list::Seq;
 pub use memory_say::MemorySay;
 pub use memory_sources::MemorySources;
+pub use sure_outputs::SureOutputs;
 pub use sure_say::SureSay;
 pub use sure_sources::SureSources;
 pub use text::Name;

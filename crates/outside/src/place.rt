@@ -32,7 +32,11 @@ impl Place {
         ensures { IfOk result (λ place. place ≡ record { path = path; size = size; held = None }) }
     {
         let room = Room::new(alloc, size)?;
-        Ok(Place { path, room, is_held: false })
+        Ok(Place {
+            path,
+            room,
+            is_held: false,
+        })
     }
 
     /// The path.
@@ -46,7 +50,11 @@ impl Place {
     pub(crate) fn held(&self) -> Option<&[u8]>
         ensures { option_map (λ bytes. bytes.now) result ≡ self.now.held }
     {
-        if self.is_held { Some(self.room.as_slice()) } else { None }
+        if self.is_held {
+            Some(self.room.as_slice())
+        } else {
+            None
+        }
     }
 
     /// Makes the file hold no bytes.

@@ -1,0 +1,70 @@
+ghost use Rattle.std.specs.Prelude.{◌≡◌, ℕ, List, [], Option, None, Some, IsSome, IfOk, OnOk, OnErr, option_map};
+ghost use Rattle.std.specs.Bool.{OnTrue, OnFalse};
+ghost use Rattle.std.proofs.Props.{props};
+ghost use Rattle.outside.specs.Placed.{paths_of, IsFirst};
+
+use crate::fault::{Failed, NoMemory};
+use crate::list::Seq;
+use crate::places::Places;
+use crate::text::Name;
+use crate::traits::Outputs;
+use std::alloc::Global;
+
+/// Files in memory, of which each path may hold a number of bytes, and which fail only for want of that
+/// room.
+#[derive(Drop)]
+pub struct SureOutputs {
+    places: Places,
+    current: Option<usize>,
+    faults: u64,
+    ghost first: { IsFirst (paths_of places) current } by { Prim.hlevel props },
+}
+
+impl SureOutputs {
+    ghost use Rattle.outside.specs.Counting.{one_more};
+    ghost use Rattle.outside.specs.Files.{put, add};
+    ghost use Rattle.outside.specs.FirstAt.{first_room, no_files};
+    ghost use Rattle.outside.specs.Stored.{FitsAt, ExceedsAt, fitting_at};
+    ghost use Rattle.outside.specs.SureOutputs.{files_of, room_of, begun_of, faults_of};
+
+    /// Room for files with these paths and up to these many bytes, all of which is taken now. Of two
+    /// rooms with one path the first counts.
+    pub fn new(alloc: Global, rooms: Seq<(Name, u64)>) -> Result<SureOutputs, NoMemory>
+        ensures files { IfOk result (λ outputs. files_of outputs ≡ no_files) }
+        ensures room { IfOk result (λ outputs. room_of outputs ≡ first_room rooms) }
+        ensures begun { IfOk result (λ outputs. begun_of outputs ≡ None) }
+        ensures faults { IfOk result (λ outputs. faults_of outputs ≡ 0) }
+    {
+        let places = Places::new(alloc, rooms)?;
+        Ok(SureOutputs {
+            places,
+            current: None,
+            faults: 0,
+        })
+    }
+
+    /// What the path has, None exactly where there is no such file. Takes no memory.
+    pub fn held(&self, path: &str) -> Option<&[u8]>
+        ensures { option_map (λ bytes. bytes.now) result ≡ files_of self.now path.now }
+    {
+        self.places.held(path)
+    }
+
+    /// Adds the front of the piece that fits at the path that is begun, and answers whether it is the
+    /// whole piece.
+    fn add(&mut self, piece: &[u8]) -> bool
+        requires { IsSome (begun_of self.old) }
+        ensures fits { OnTrue result (FitsAt (room_of self.old) (files_of self.old) (begun_of self.old) piece.now) }
+        ensures full { OnFalse result (ExceedsAt (room_of self.old) (files_of self.old) (begun_of self.old) piece.now) }
+        ensures whole { OnTrue result (files_of self.new ≡ add (files_of self.old) (begun_of self.old) piece.now) }
+        ensures added { files_of self.new ≡ add (files_of self.old) (begun_of self.old) (fitting_at (room_of self.old) (files_of self.old) (begun_of self.old) piece.now) }
+        ensures begun { begun_of self.new ≡ begun_of self.old }
+        ensures room { room_of self.new ≡ room_of self.old }
+        ensures faults { faults_of self.new ≡ faults_of self.old }
+    {
+        match self.current {
+            Some(index) => self.places.add(index, piece),
+            None => unreachable!(),
+        }
+    }
+}
