@@ -9,9 +9,10 @@
 
 mod region;
 mod runs;
-mod scalar;
+mod scalars;
 mod tuple;
 
 pub use region::Triple;
 pub use runs::{DeltaClass, PointClass};
+pub use scalars::scalar;
 pub use tuple::TupleVariation;
