@@ -5,3 +5,4 @@ pub mod TupleVariations
 pub mod Scalar
 pub mod InferredDelta
 pub mod DrawnOutline
+pub mod FontUnits

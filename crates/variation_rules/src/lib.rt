@@ -7,10 +7,14 @@
 //! tests compare with.
 #![tactic(auto)]
 
+mod inferred;
 mod region;
 mod runs;
+mod scalars;
 mod tuple;
 
+pub use inferred::{Reference, inferred_delta};
 pub use region::Triple;
 pub use runs::{DeltaClass, PointClass};
+pub use scalars::scalar;
 pub use tuple::TupleVariation;
