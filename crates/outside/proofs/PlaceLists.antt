@@ -203,6 +203,6 @@ room_in-Some places path i e =
     let found : position (has_path path) places ≡ Some i = sym (index_of-paths places path) ∙ e in
     let none : Placed = record { path = []; size = 0; held = None } in
     let there : place_at places path ≡ Some (get_or places i none) =
-      find_at (has_path path) places ∙ ap (slice_get places) (cond-Some _ _ _ found)
-      ∙ slice_get-get_or places i none (position-Some (has_path path) places i none found).0 in
+    find_at (has_path path) places ∙ ap (slice_get places) (cond-Some _ _ _ found)
+    ∙ slice_get-get_or places i none (position-Some (has_path path) places i none found).0 in
     rw there refl

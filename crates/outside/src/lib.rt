@@ -6,6 +6,7 @@
 mod failures;
 mod fault;
 mod list;
+mod memory_outputs;
 mod memory_say;
 mod memory_sources;
 mod place;
@@ -21,6 +22,7 @@ mod traits;
 
 pub use fault::{Failed, Fault, Kind, NoMemory, Spot, Stop};
 pub use list::Seq;
+pub use memory_outputs::MemoryOutputs;
 pub use memory_say::MemorySay;
 pub use memory_sources::MemorySources;
 pub use sure_outputs::SureOutputs;
