@@ -1,13 +1,14 @@
 -- A write to the first place with a path, seen by paths.
-use Rattle.std.proofs.Common.{◌≡◌, ℕ, ◌+◌, ◌<◌, ◌≤◌, Bool, true, false, cond, List, [], ◌∷◌, ◌++◌, length, get_or, map, Option, Some, None, refl, sym, ◌∙◌, ap, subst}
+use Rattle.std.proofs.Common.{◌≡◌, ℕ, ◌+◌, ◌<◌, ◌≤◌, Bool, true, false, cond, List, [], ◌∷◌, ◌++◌, length, get_or, map, Option, Some, None, refl, sym, ◌∙◌, ap, subst, arith}
 use Rattle.std.proofs.Math.ListN.{set}
 use Rattle.std.proofs.Math.Seq.{map-set_same}
 use Rattle.std.proofs.lemmas.List.{length-map}
 use Rattle.std.proofs.lemmas.List.Folds.{find_at, find-set, find_past}
 use Rattle.std.proofs.lemmas.List.Quantifiers.{position-Some}
-use Rattle.std.proofs.lemmas.Option.{slice_get-get_or}
+use Rattle.std.proofs.lemmas.Option.{slice_get-get_or, slice_get_past}
+use Rattle.std.proofs.lemmas.Bool.Decides.{nat_tests}
 use Rattle.std.proofs.lemmas.Slice.Eq.{bytes_eq-Decides}
-use Rattle.std.specs.Prelude.{bytes_eq, unwrap_or, position, not, option_map, option_and_then, slice_get}
+use Rattle.std.specs.Prelude.{IsSome, nat_lt, bytes_eq, unwrap_or, position, not, option_map, option_and_then, slice_get}
 use Rattle.std.specs.List.{find, prefix_len, position_or_len}
 use Rattle.outside.specs.Files.{put, content}
 use Rattle.outside.specs.Stored.{Fits, fitting, fitting_in}
@@ -183,3 +184,25 @@ room_in-empty rooms q =
         option_map (λ (place : Placed). place.size) (option_map empty_place room) ≡ option_map (λ (r : List ℕ × ℕ). r.1) room
     by_room None = refl
     by_room (Some room) = refl
+
+cond-None : (b : Bool) (n : ℕ) → cond b (Some n) None ≡ None → b ≡ false
+cond-None true n e = cc
+cond-None false n e = refl
+
+-- a path that no place has has no room
+pub room_in-None : (places : List Placed) (path : List ℕ) → index_of (paths_of places) path ≡ None → room_in places path ≡ None
+room_in-None places path e =
+    let absent : position (has_path path) places ≡ None = sym (index_of-paths places path) ∙ e in
+    let past : nat_lt (position_or_len (has_path path) places) (length places) ≡ false = cond-None _ _ absent in
+    ap (option_map (λ (place : Placed). place.size))
+    (find_at (has_path path) places ∙ slice_get_past places (position_or_len (has_path path) places) (grind (arith, nat_tests)))
+
+-- and one that a place has has some
+pub room_in-Some : (places : List Placed) (path : List ℕ) (i : ℕ) → index_of (paths_of places) path ≡ Some i → IsSome (room_in places path)
+room_in-Some places path i e =
+    let found : position (has_path path) places ≡ Some i = sym (index_of-paths places path) ∙ e in
+    let none : Placed = record { path = []; size = 0; held = None } in
+    let there : place_at places path ≡ Some (get_or places i none) =
+    find_at (has_path path) places ∙ ap (slice_get places) (cond-Some _ _ _ found)
+    ∙ slice_get-get_or places i none (position-Some (has_path path) places i none found).0 in
+    rw there refl

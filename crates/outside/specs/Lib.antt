@@ -14,3 +14,4 @@ pub mod SureSay
 pub mod MemorySay
 pub mod Placed
 pub mod SureOutputs
+pub mod MemoryOutputs

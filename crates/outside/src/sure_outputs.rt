@@ -67,4 +67,82 @@ impl SureOutputs {
             None => unreachable!(),
         }
     }
+
+    /// Adds the front of the piece that fits at the path that is begun, and counts a fault.
+    pub(crate) fn cut_short(&mut self, piece: &[u8])
+        requires { IsSome (begun_of self.old) }
+        ensures added { files_of self.new ≡ add (files_of self.old) (begun_of self.old) (fitting_at (room_of self.old) (files_of self.old) (begun_of self.old) piece.now) }
+        ensures begun { begun_of self.new ≡ begun_of self.old }
+        ensures room { room_of self.new ≡ room_of self.old }
+        ensures counted { faults_of self.new ≡ one_more (faults_of self.old) }
+    {
+        let _ = self.add(piece);
+        self.faults = self.faults.saturating_add(1);
+    }
+
+    /// Ends the path that is begun, and counts a fault.
+    pub(crate) fn end(&mut self)
+        ensures files { files_of self.new ≡ files_of self.old }
+        ensures begun { begun_of self.new ≡ None }
+        ensures room { room_of self.new ≡ room_of self.old }
+        ensures counted { faults_of self.new ≡ one_more (faults_of self.old) }
+    {
+        self.current = None;
+        self.faults = self.faults.saturating_add(1);
+    }
+}
+
+impl Outputs for SureOutputs {
+    ghost use Rattle.outside.specs.Counting.{count_after};
+    ghost use Rattle.outside.specs.Files.{put, add, content, IsFront, Exceeds};
+    ghost use Rattle.outside.specs.Stored.{FitsAt, ExceedsAt, fitting_at};
+    ghost use Rattle.outside.specs.SureOutputs.{files_of, room_of, begun_of, faults_of};
+
+    ghost tells = { λ _. Unit {0} };
+
+    ghost files = { files_of };
+
+    ghost begun = { begun_of };
+
+    ghost faults = { faults_of };
+
+    ghost is_sure = { λ _. Unit {0} };
+
+    ghost room = { room_of };
+
+    fn begin(&mut self, path: &str) -> Result<(), Failed>
+        ensures has_room { OnOk result (IsSome (room_of self.old path.now)) }
+        ensures no_room { OnErr result (room_of self.old path.now ≡ None) }
+        ensures ok { OnOk result (files_of self.new ≡ put (files_of self.old) path.now []) }
+        ensures err { OnErr result (files_of self.new ≡ files_of self.old) }
+        ensures path { OnOk result (begun_of self.new ≡ Some path.now) }
+        ensures ended { OnErr result (begun_of self.new ≡ None) }
+        ensures counted { faults_of self.new ≡ count_after (faults_of self.old) result }
+        ensures room { room_of self.new ≡ room_of self.old }
+    {
+        let Some(index) = self.places.begin(path) else {
+            self.end();
+            return Err(Failed);
+        };
+        self.current = Some(index);
+        Ok(())
+    }
+
+    fn append(&mut self, bytes: &[u8]) -> Result<(), Failed>
+        requires { IsSome (begun_of self.old) }
+        ensures fits { OnOk result (FitsAt (room_of self.old) (files_of self.old) (begun_of self.old) bytes.now) }
+        ensures full { OnErr result (ExceedsAt (room_of self.old) (files_of self.old) (begun_of self.old) bytes.now) }
+        ensures ok { OnOk result (files_of self.new ≡ add (files_of self.old) (begun_of self.old) bytes.now) }
+        ensures cut { OnErr result (files_of self.new ≡ add (files_of self.old) (begun_of self.old) (fitting_at (room_of self.old) (files_of self.old) (begun_of self.old) bytes.now)) }
+        ensures err { OnErr result ((front : List ℕ) × IsFront front bytes.now × (files_of self.new ≡ add (files_of self.old) (begun_of self.old) front)) }
+        ensures begun { begun_of self.new ≡ begun_of self.old }
+        ensures counted { faults_of self.new ≡ count_after (faults_of self.old) result }
+        ensures room { room_of self.new ≡ room_of self.old }
+    {
+        if self.add(bytes) {
+            return Ok(());
+        }
+        self.faults = self.faults.saturating_add(1);
+        Err(Failed)
+    }
 }
