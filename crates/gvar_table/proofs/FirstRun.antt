@@ -1,10 +1,9 @@
 -- The longest run of one class that begins a list, by the number of first values in that class.
-use Rattle.std.proofs.Common.{◌≡◌, ℕ, ℤ, zero, suc, pos, ◌+◌, ◌<◌, ◌≤◌, min, List, [], ◌∷◌, ◌++◌, length, take, drop, get_or, All, Bool, true, false, cond, refl, sym, ap, subst, ◌∙◌, inl, inr, arith, length-take, drop-cons}
+use Rattle.std.proofs.Common.{◌≡◌, ℕ, ℤ, pos, ◌<◌, ◌≤◌, List, [], ◌∷◌, length, take, drop, get_or, All, Bool, true, false, refl, sym, ap, subst, ◌∙◌, inl, inr, arith, length-take, drop-cons}
 use Rattle.std.specs.List.{prefix_len}
 use Rattle.std.proofs.lemmas.List.{take-append-drop, get_or-take, drop_all}
 use Rattle.std.proofs.lemmas.List.Sums.{prefix_len-le-length, prefix_len_passes, prefix_len_stops}
 use Rattle.std.proofs.lemmas.Bool.{false≢true, cases_lt}
-use Rattle.std.proofs.lemmas.Grind.{common_steps}
 use Rattle.variation_rules.specs.PackedDeltas.{class_of_delta}
 use Rattle.variation_rules.specs.declared.runs.DeltaClass.{DeltaClass}
 use Rattle.variation_rules.specs.declared.runs.DeltaClass.TheVariants.{Zeros, Bytes, Words}
@@ -51,7 +50,7 @@ own_in class values k d h =
     let bounds = count_bounds class values in
     let before : k < count_in class values = omega (arith, length-take (count_in class values) values) in
     let here : get_or (take 64 values) k d ≡ get_or (take (count_in class values) values) k d =
-        get_or-take 64 values k d (omega arith) ∙ sym (get_or-take (count_in class values) values k d before) in
+    get_or-take 64 values k d (omega arith) ∙ sym (get_or-take (count_in class values) values k d before) in
     same_true _ _ (subst (λ (value : ℤ). in_class class value ≡ true) here (prefix_len_passes (in_class class) (take 64 values) k d before))
 
 -- the value behind the counted ones, where there is one and they aren't 64, is of another class
@@ -61,7 +60,7 @@ stops class values below inside goes =
     let next : ℤ = get_or values (count_in class values) (pos 0) in
     let here : get_or (take 64 values) (count_in class values) (pos 0) ≡ next = get_or-take 64 values _ (pos 0) below in
     let other : in_class class next ≡ false =
-        subst (λ (value : ℤ). in_class class value ≡ false) here (prefix_len_stops (in_class class) (take 64 values) (pos 0) (omega (arith, length-take 64 values))) in
+    subst (λ (value : ℤ). in_class class value ≡ false) here (prefix_len_stops (in_class class) (take 64 values) (pos 0) (omega (arith, length-take 64 values))) in
     let first : class_of_delta next ≡ class = subst (GoesOn class) (drop-cons values (count_in class values) (pos 0) inside) goes in
     let own : in_class class next ≡ true = subst (λ (k : DeltaClass). same_class (class_of_delta next) k ≡ true) first (same_itself (class_of_delta next)) in
     absurd (false≢true (sym other ∙ own))
@@ -72,12 +71,12 @@ full_in class values goes =
     let bounds = count_bounds class values in
     let taken = length-take (count_in class values) values in
     elim (cases_lt (count_in class values) 64) [
-      inl below ↦
-        elim (cases_lt (count_in class values) (length values)) [
-          inl inside ↦ absurd (stops class values below inside goes)
-        | inr outside ↦ absurd (subst (GoesOn class) (drop_all (count_in class values) values outside) goes)
-        ]
-    | inr full ↦ omega arith
+      | inl below ↦
+          elim (cases_lt (count_in class values) (length values)) [
+            | inl inside ↦ absurd (stops class values below inside goes)
+            | inr outside ↦ absurd (subst (GoesOn class) (drop_all (count_in class values) values outside) goes)
+          ]
+      | inr full ↦ omega arith
     ]
 
 -- the values counted in the class of the first one are the first run, and the others come after it
@@ -95,5 +94,5 @@ first_run class run after values n some first count front back =
       long = full_in class values;
     } in
     let moved : BeginsWithRun class run (drop (count_in class values) values) values =
-        subst (λ (r : List ℤ). BeginsWithRun class r (drop (count_in class values) values) values) (sym front_is) begun in
+    subst (λ (r : List ℤ). BeginsWithRun class r (drop (count_in class values) values) values) (sym front_is) begun in
     subst (λ (a : List ℤ). BeginsWithRun class run a values) (sym back_is) moved

@@ -1,11 +1,10 @@
 -- A list of deltas is packed in maximal runs in one way.
-use Rattle.std.proofs.Common.{◌≡◌, ℕ, ℤ, ◌+◌, ◌<◌, ◌≤◌, List, [], ◌∷◌, ◌++◌, length, All, refl, sym, ap, subst, ◌∙◌, arith, length-append}
-use Rattle.std.specs.List.{flat_map}
+use Rattle.std.proofs.Common.{◌≡◌, ℕ, ℤ, ◌<◌, ◌≤◌, List, [], ◌∷◌, ◌++◌, length, All, refl, sym, ap, subst, ◌∙◌, arith, length-append}
 use Rattle.std.proofs.lemmas.List.Elements.{All-head, All-tail}
 use Rattle.variation_rules.specs.PackedDeltas.{DeltaRun, IsDeltaRun, AreLongDeltaRuns, PacksDeltas, class_of_delta, delta_bytes}
 use Rattle.variation_rules.specs.declared.runs.DeltaClass.{DeltaClass}
 use Rattle.gvar_table.specs.FirstRun.{GoesOn}
-use Rattle.gvar_table.proofs.PackedDeltas.{bytes_of, values_of, IsOwn, all_of_both, goes_on}
+use Rattle.gvar_table.proofs.PackedDeltas.{bytes_of, values_of, IsOwn, all_of_both}
 
 -- Of two ways to cut one list, they cut at one place, or the second cuts behind the first, or before it.
 by_cut : {P : Type 0} (a b c d : List ℤ) → a ++ b ≡ c ++ d → (a ≡ c → b ≡ d → P) → ((v : ℤ) (w : List ℤ) → c ≡ a ++ v ∷ w → b ≡ (v ∷ w) ++ d → P) → ((v : ℤ) (w : List ℤ) → a ≡ c ++ v ∷ w → d ≡ (v ∷ w) ++ b → P) → P

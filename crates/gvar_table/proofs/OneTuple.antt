@@ -1,5 +1,5 @@
 -- The bytes of one tuple: they are determined, and they mean that tuple.
-use Rattle.std.proofs.Common.{◌≡◌, ℕ, ℤ, zero, suc, pos, negsuc, ◌≤ℤ◌, ◌+◌, ◌*◌, ◌^◌, ◌<◌, ◌≤◌, List, [], ◌∷◌, ◌++◌, length, map, All, FitsSigned, Option, Some, None, Bool, true, false, refl, sym, ap, subst, ◌∙◌, inl, inr, arith, length-append}
+use Rattle.std.proofs.Common.{◌≡◌, ℕ, ℤ, zero, suc, pos, negsuc, ◌≤ℤ◌, ◌+◌, ◌*◌, ◌^◌, ◌<◌, ◌≤◌, List, [], ◌∷◌, ◌++◌, length, map, All, FitsSigned, None, true, refl, sym, ap, subst, ◌∙◌, inl, inr, arith, length-append}
 use Rattle.std.proofs.lemmas.List.{length-map, append-nil}
 use Rattle.std.proofs.lemmas.List.Elements.{All-cons, All-nil, All-map}
 use Rattle.std.proofs.lemmas.Simd.{map-map}
@@ -9,8 +9,7 @@ use Rattle.fixpoint.specs.declared.plane.Pair.{Pair}
 use Rattle.variation_rules.specs.Fields.{word, signed_word}
 use Rattle.variation_rules.specs.PackedPoints.{ReadsPoints, PacksPoints, count_from}
 use Rattle.variation_rules.specs.PackedDeltas.{ReadsDeltas, PacksDeltas}
-use Rattle.variation_rules.specs.TupleVariations.{Header, Peak, embedded, HasRegion, IsPart, AreTuples, IsGlyphData, MeansTuples, PacksTuples, header_bytes, plain_triple}
-use Rattle.variation_rules.specs.declared.tuple.TupleVariation.{TupleVariation}
+use Rattle.variation_rules.specs.TupleVariations.{Header, embedded, HasRegion, IsPart, IsGlyphData, MeansTuples, PacksTuples, header_bytes, plain_triple}
 use Rattle.gvar_table.specs.OneTuple.{IsDelta, IsDeltaNumber, IsOneTuple, all_points_tuple, one_tuple}
 use Rattle.gvar_table.proofs.OnePacking.{one_packing}
 

@@ -1,12 +1,12 @@
 -- Packed deltas in maximal runs: a run in front of packed ones, and how many bytes they take.
-use Rattle.std.proofs.Common.{◌≡◌, ℕ, ℤ, zero, suc, pos, negsuc, ◌+◌, ◌*◌, ◌<◌, ◌≤◌, List, [], ◌∷◌, ◌++◌, length, map, get_or, All, FitsSigned, refl, sym, ap, subst, ◌∙◌, arith, length-append, append_assoc}
+use Rattle.std.proofs.Common.{◌≡◌, ℕ, ℤ, ◌*◌, ◌<◌, ◌≤◌, List, [], ◌∷◌, ◌++◌, length, get_or, All, FitsSigned, refl, sym, ap, subst, ◌∙◌, arith, length-append, append_assoc}
 use Rattle.std.proofs.lemmas.List.{length-map, append-nil}
 use Rattle.std.specs.Int.{w8, w16, cast_unsigned}
 use Rattle.std.specs.List.{flat_map}
 use Rattle.std.proofs.lemmas.List.Elements.{All-head, All-tail, All-cons, All-nil}
 use Rattle.std.proofs.lemmas.Int.{ints}
 use Rattle.variation_rules.specs.Fields.{signed_word}
-use Rattle.variation_rules.specs.PackedDeltas.{DeltaRun, IsDeltaRun, AreDeltaRuns, AreLongDeltaRuns, HoldsDelta, PacksDeltas, class_of_delta, delta_bytes}
+use Rattle.variation_rules.specs.PackedDeltas.{DeltaRun, IsDeltaRun, AreLongDeltaRuns, HoldsDelta, PacksDeltas, class_of_delta, delta_bytes}
 use Rattle.variation_rules.specs.declared.runs.DeltaClass.{DeltaClass}
 use Rattle.variation_rules.specs.declared.runs.DeltaClass.TheVariants.{Zeros, Bytes, Words}
 use Rattle.gvar_table.specs.FirstRun.{GoesOn, BeginsWithRun}

@@ -1,4 +1,4 @@
-use Rattle.std.proofs.Common.{ℤ, List, All, FitsSigned, subst, sym, ◌∙◌}
+use Rattle.std.proofs.Common.{All, FitsSigned, subst, sym, ◌∙◌}
 use Rattle.std.specs.Int.{w16}
 use Rattle.gvar_table.proofs.OneTuple.{xs_fit}
 use Rattle.gvar_table.proofs.one_tuple.pack_xs.Goals as goal

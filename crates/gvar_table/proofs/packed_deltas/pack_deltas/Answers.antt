@@ -1,4 +1,4 @@
-use Rattle.std.proofs.Common.{◌≡◌, ◌++◌, ℤ, List, All, FitsSigned, length, arith, rules, subst, sym, ◌∙◌}
+use Rattle.std.proofs.Common.{◌≡◌, All, FitsSigned, length, arith, subst}
 use Rattle.std.specs.Int.{w16}
 use Rattle.gvar_table.proofs.PackedDeltas.{run_added, all_of_both, all_packed, packed_length}
 use Rattle.gvar_table.proofs.packed_deltas.pack_deltas.Goals as goal

@@ -1,4 +1,4 @@
-use Rattle.std.proofs.Common.{◌≡◌, ℕ, ℤ, ◌+◌, ◌*◌, ◌≤◌, List, ◌++◌, length, All, FitsSigned}
+use Rattle.std.proofs.Common.{ℕ, List, ◌++◌, length, All, FitsSigned}
 use Rattle.std.specs.Int.{w16}
 use Rattle.variation_rules.specs.PackedDeltas.{PacksDeltas}
 use Rattle.gvar_table.proofs.packed_deltas.pack_deltas.Given as goal

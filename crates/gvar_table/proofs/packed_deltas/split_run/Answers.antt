@@ -1,7 +1,7 @@
 use Rattle.std.proofs.Common.{get_or, pos, SFits, arith, rules}
 use Rattle.std.proofs.lemmas.Int.{to_z-of_z}
 use Rattle.std.specs.Int.{w32}
-use Rattle.gvar_table.proofs.FirstRun.{count_in, count_bounds, first_run}
+use Rattle.gvar_table.proofs.FirstRun.{count_bounds, first_run}
 use Rattle.gvar_table.proofs.packed_deltas.split_run.Goals as goal
 
 pub split_at-requires : goal.split_at-requires
