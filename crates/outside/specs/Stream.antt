@@ -25,3 +25,8 @@ CountsKnown before (Some bytes) n = n ≡ before + length bytes
 abbrev pub AppendsFront : {X E : Type 0} → Option (List ℕ) → Option (List ℕ) → List ℕ → Result X E → Type 0
 AppendsFront old new bytes (Ok _) = Appends old new bytes
 AppendsFront old new bytes (Err _) = (front : List ℕ) × IsFront front bytes × Appends old new front
+
+-- a file is open before and after, and grew by the bytes, or by a front of them where an error came
+abbrev pub GrowsFile : {F X E : Type 0} → (F → Option (List ℕ)) → Option F → Option F → List ℕ → Result X E → Type 0
+GrowsFile contents (Some old) (Some new) bytes result = AppendsFront (contents old) (contents new) bytes result
+GrowsFile contents _ _ bytes result = ⊥

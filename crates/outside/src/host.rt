@@ -1,6 +1,7 @@
-ghost use Rattle.std.specs.Prelude.{◌≡◌, [], None, Some, IfOk, is_some, if◌then◌else◌};
-ghost use Rattle.outside.specs.Found.{IsWithin};
-ghost use Rattle.outside.specs.Stream.{IsCounted};
+ghost use Rattle.std.specs.Prelude.{◌≡◌, [], None, Some, IfOk, IsSome, is_ok, is_some, if◌then◌else◌};
+ghost use Rattle.outside.specs.Counting.{count_after};
+ghost use Rattle.outside.specs.Found.{IsWithin, count_after_read};
+ghost use Rattle.outside.specs.Stream.{IsCounted, GrowsFile};
 
 use crate::fault::Failed;
 use crate::stream::{read_within, write_whole};
@@ -51,7 +52,11 @@ impl<R: Files> Sources for HostSources<R> {
 
     ghost is_sure = { λ _. ⊥ };
 
-    fn read(&mut self, alloc: Global, path: &str, limit: usize) -> Result<Found, ReadError> {
+    fn read(&mut self, alloc: Global, path: &str, limit: usize) -> Result<Found, ReadError>
+        ensures within { IfOk result (IsWithin limit) }
+        ensures most { IfOk result IsCounted }
+        ensures counted { self.new.faults ≡ count_after_read self.old.faults result }
+    {
         match read_file(&self.rt, alloc, path, limit) {
             Err(ReadError::Failed) => {
                 self.faults = self.faults.saturating_add(1);
@@ -99,7 +104,10 @@ impl<R: Files> Outputs for HostOutputs<R> {
 
     ghost room = { λ _ _. None };
 
-    fn begin(&mut self, path: &str) -> Result<(), Failed> {
+    fn begin(&mut self, path: &str) -> Result<(), Failed>
+        ensures begun { is_some self.new.file ≡ is_ok result }
+        ensures counted { self.new.faults ≡ count_after self.old.faults result }
+    {
         self.file = None;
         match fs::create(&self.rt, path) {
             Ok(file) => {
@@ -113,7 +121,11 @@ impl<R: Files> Outputs for HostOutputs<R> {
         }
     }
 
-    fn append(&mut self, bytes: &[u8]) -> Result<(), Failed> {
+    fn append(&mut self, bytes: &[u8]) -> Result<(), Failed>
+        requires { IsSome self.old.file }
+        ensures written { GrowsFile R.File.contents self.old.file self.new.file bytes.now result }
+        ensures counted { self.new.faults ≡ count_after self.old.faults result }
+    {
         let Some(file) = &mut self.file else {
             unreachable!()
         };
@@ -154,7 +166,9 @@ impl<R: Print> Say for HostSay<R> {
 
     ghost room = { λ _. 0 };
 
-    fn say(&mut self, bytes: &[u8]) -> Result<(), Failed> {
+    fn say(&mut self, bytes: &[u8]) -> Result<(), Failed>
+        ensures counted { self.new.faults ≡ count_after self.old.faults result }
+    {
         match write_whole(&mut io::writer(&self.rt), bytes) {
             Ok(()) => Ok(()),
             Err(Failed) => {
