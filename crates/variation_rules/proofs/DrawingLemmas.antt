@@ -1,7 +1,7 @@
 -- What the drawing comes to where a tuple names every point, and where there is one tuple.
-use Rattle.std.proofs.Common.{◌≡◌, ℕ, ℤ, zero, suc, pos, ◌+◌, ◌%◌, ◌<◌, ◌≤◌, ◌+ℤ◌, ◌*ℤ◌, List, [], ◌∷◌, length, take, drop, get_or, Option, Some, None, sum, refl, sym, ◌∙◌, ap, arith}
+use Rattle.std.proofs.Common.{◌≡◌, ℕ, ℤ, zero, suc, pos, ◌+◌, ◌%◌, ◌<◌, ◌≤◌, min, ◌+ℤ◌, ◌*ℤ◌, List, [], ◌∷◌, length, take, drop, get_or, Option, Some, None, sum, refl, sym, ◌∙◌, ap, arith}
 use Rattle.std.proofs.lemmas.Bool.{eq-eqb, ne_eqb}
-use Rattle.std.proofs.lemmas.List.{get_or-take, get_or-drop, length-take, length-drop, nil_from_length, take_all}
+use Rattle.std.proofs.lemmas.List.{get_or-take, get_or-drop, length-take, length-drop, nil_from_length, take_all, drop_more}
 use Rattle.std.proofs.lemmas.List.Sums.{sum_by-cons}
 use Rattle.std.proofs.Math.IntN.{+ℤ_idr}
 use Rattle.std.proofs.Math.Nat.{mod-eq_of_lt}
@@ -20,6 +20,22 @@ named_first point points delta deltas i same = rw (eq-eqb point i same)
 -- and any other is looked for among the rest
 pub named_later : (point : ℕ) (points : List ℕ) (delta : Pair) (deltas : List Pair) (i : ℕ) → (point ≡ i → ⊥) → named_delta (point ∷ points) (delta ∷ deltas) i ≡ named_delta points deltas i
 named_later point points delta deltas i other = rw (ne_eqb point i other)
+
+-- what the lists name from a place on
+pub named_here : (points : List ℕ) (deltas : List Pair) (k i : ℕ) → k < length points → k < length deltas → get_or points k 0 ≡ i → named_delta (drop k points) (drop k deltas) i ≡ Some (get_or deltas k still)
+named_here points deltas k i inside also same =
+    rw (drop_more points k 0 inside, drop_more deltas k still also)
+    (named_first (get_or points k 0) (drop (k + 1) points) (get_or deltas k still) (drop (k + 1) deltas) i same)
+
+pub named_further : (points : List ℕ) (deltas : List Pair) (k i : ℕ) → k < length points → k < length deltas → (get_or points k 0 ≡ i → ⊥) → named_delta (drop k points) (drop k deltas) i ≡ named_delta (drop (k + 1) points) (drop (k + 1) deltas) i
+named_further points deltas k i inside also other =
+    rw (drop_more points k 0 inside, drop_more deltas k still also)
+    (named_later (get_or points k 0) (drop (k + 1) points) (get_or deltas k still) (drop (k + 1) deltas) i other)
+
+pub named_end : (points : List ℕ) (deltas : List Pair) (i : ℕ) → min (length points) (length deltas) ≤ 0 → named_delta points deltas i ≡ None
+named_end [] deltas i ended = refl
+named_end (p ∷ points) [] i ended = refl
+named_end (p ∷ points) (delta ∷ deltas) i ended = absurd (omega arith)
 
 -- a list that names so many points, from one on, has the delta of each at its place
 named_from : (n first i : ℕ) (deltas : List Pair) → n ≤ length deltas → i < n → named_delta (count_from n first) deltas (first + i) ≡ Some (get_or deltas i still)

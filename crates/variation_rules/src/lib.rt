@@ -7,12 +7,14 @@
 //! tests compare with.
 #![tactic(auto)]
 
+mod filling;
 mod inferred;
 mod region;
 mod runs;
 mod scalars;
 mod tuple;
 
+pub use filling::filled;
 pub use inferred::{Reference, inferred_delta};
 pub use region::Triple;
 pub use runs::{DeltaClass, PointClass};
