@@ -3,7 +3,7 @@ use Rattle.std.proofs.Common.{◌≡◌, ℕ, ℤ, zero, suc, pos, ◌+◌, ◌%
 use Rattle.std.proofs.lemmas.Bool.{eq-eqb, ne_eqb}
 use Rattle.std.proofs.lemmas.List.{get_or-take, get_or-drop, length-take, length-drop, nil_from_length, take_all, drop_more}
 use Rattle.std.proofs.lemmas.List.Sums.{sum_by-cons}
-use Rattle.std.proofs.Math.IntN.{+ℤ_idr}
+use Rattle.std.proofs.Math.IntN.{+ℤ_idr, +ℤ_assoc}
 use Rattle.std.proofs.Math.Nat.{mod-eq_of_lt}
 use Rattle.std.specs.Option.{unwrap_or}
 use Rattle.fixpoint.specs.declared.plane.Pair.{Pair}
@@ -126,3 +126,18 @@ drawn_advance_all_named advance outline_points at tuple all one_each =
     rw all (all_named (outline_points + 4) (outline_points + 1) tuple.deltas one_each (omega arith)) in
     drawn_advance_of_one advance outline_points at tuple
     ∙ ap (λ delta. (pos 65536 *ℤ advance) +ℤ (scalar_of 16 tuple.region at *ℤ (unwrap_or delta still).x)) named
+
+-- what one tuple more adds to a point's movement, where the tuples left complete it
+pub movement_step : (part : Pair → ℤ) (at : List ℤ) (tuples : List TupleVariation) (fills : List (List Pair)) (k point : ℕ) (tuple : TupleVariation) (fill : List Pair) (so_far moved whole : ℤ) → k < length tuples → k < length fills → tuple ≡ get_or tuples k tuple → fill ≡ get_or fills k fill → moved ≡ scalar_of 16 tuple.region at *ℤ part (get_or fill point still) → so_far +ℤ movement part at (drop k tuples) (drop k fills) point ≡ whole → (so_far +ℤ moved) +ℤ movement part at (drop (k + 1) tuples) (drop (k + 1) fills) point ≡ whole
+movement_step part at tuples fills k point tuple fill so_far moved whole inside also tuple_is fill_is moved_is rest =
+    let next : drop k tuples ≡ tuple ∷ drop (k + 1) tuples = rw (drop_more tuples k tuple inside, ← tuple_is) in
+    let next_fill : drop k fills ≡ fill ∷ drop (k + 1) fills = rw (drop_more fills k fill also, ← fill_is) in
+    let later = movement part at (drop (k + 1) tuples) (drop (k + 1) fills) point in
+    +ℤ_assoc so_far moved later ∙ (ap (λ z. so_far +ℤ (z +ℤ later)) moved_is ∙ rw (next, next_fill) at rest)
+
+-- the same of a phantom point
+pub phantom_step : (at : List ℤ) (tuples : List TupleVariation) (k point : ℕ) (tuple : TupleVariation) (so_far moved whole : ℤ) → k < length tuples → tuple ≡ get_or tuples k tuple → moved ≡ scalar_of 16 tuple.region at *ℤ (unwrap_or (named_delta tuple.points tuple.deltas point) still).x → so_far +ℤ phantom_movement at (drop k tuples) point ≡ whole → (so_far +ℤ moved) +ℤ phantom_movement at (drop (k + 1) tuples) point ≡ whole
+phantom_step at tuples k point tuple so_far moved whole inside tuple_is moved_is rest =
+    let next : drop k tuples ≡ tuple ∷ drop (k + 1) tuples = rw (drop_more tuples k tuple inside, ← tuple_is) in
+    let later = phantom_movement at (drop (k + 1) tuples) point in
+    +ℤ_assoc so_far moved later ∙ (ap (λ z. so_far +ℤ (z +ℤ later)) moved_is ∙ rw next at rest)

@@ -5,13 +5,15 @@ use Rattle.std.proofs.lemmas.Bool.{cases_lt, cases_eq}
 use Rattle.std.proofs.lemmas.List.Elements.{All-head, All-tail}
 use Rattle.std.proofs.lemmas.List.{length-take, length-drop, get_or-take, get_or-drop, get_or_append_left, get_or_push, take_all, drop_all, drop-drop, take-append-le, drop-append-le}
 use Rattle.std.proofs.lemmas.List.Sums.{sum_by-cons}
+use Rattle.std.specs.Option.{unwrap_or}
 use Rattle.fixpoint.specs.declared.plane.Pair.{Pair}
 use Rattle.variation_rules.specs.InferredDelta.{still, around, AreNearest, FillsContour}
-use Rattle.variation_rules.specs.DrawnOutline.{named_delta, FillsContours}
+use Rattle.variation_rules.specs.DrawnOutline.{named_delta, FillsContours, Fills}
 use Rattle.variation_rules.specs.PointDelta.{IsInferred, given_at, IsDeltaAt, IsBefore, IsAfter}
 use Rattle.variation_rules.proofs.DrawingLemmas.{around_within, named_first, named_later}
 use Rattle.variation_rules.specs.declared.filling.Moved.{Moved}
 use Rattle.variation_rules.specs.declared.filling.Neighbour.{Neighbour}
+use Rattle.variation_rules.specs.declared.tuple.TupleVariation.{TupleVariation}
 
 -- places at one distance before, or after, places that are one on the cycle are one on the cycle
 same_before : (u w q r k n : ℕ) → u + k ≡ q → w + k ≡ r → k ≤ n → q % n ≡ r % n → u % n ≡ w % n
@@ -339,3 +341,30 @@ named_within P (point ∷ points) (delta ∷ deltas) i all =
     (λ (same : point ≡ i). rw (named_first point points delta deltas i same) (All-head P delta deltas all))
     (λ (other : point ≡ i → ⊥). rw (named_later point points delta deltas i other) (named_within P points deltas i (All-tail P delta deltas all)))
     (cases_eq point i)
+
+-- what holds of a value if there is one, and of the value in its place
+pub unwrap_within : {X : Type 0} (P : X → Type 0) (x : Option X) (d : X) → IfSome x P → P d → P (unwrap_or x d)
+unwrap_within P None d all default = default
+unwrap_within P (Some x) d all default = all
+
+-- deltas that fill the contours of an outline are one a point
+pub contours_count : (lengths : List ℕ) (points : List Pair) (given : ℕ → Option Pair) (deltas : List Pair) → sum lengths ≡ length points → FillsContours lengths points given deltas → length deltas ≡ length points
+contours_count [] points given deltas whole fills = ap length fills ∙ whole
+contours_count (n ∷ lengths) points given deltas whole fills =
+    let parts : n + sum lengths ≡ length points = sym (sum_by-cons (λ k. k) n lengths) ∙ whole in
+    let rest = contours_count lengths (drop n points) (λ i. given (n + i)) (drop n deltas) (omega (arith, length-drop n points)) fills.1 in
+    omega (arith, fills.0.one_each, rest, length-take n points, length-take n deltas, length-drop n points, length-drop n deltas)
+
+-- one tuple more has its deltas
+pub fills_push : (lengths : List ℕ) (points : List Pair) (tuples : List TupleVariation) (fills : List (List Pair)) (tuple : TupleVariation) (deltas : List Pair) → Fills lengths points tuples fills → FillsContours lengths points (named_delta tuple.points tuple.deltas) deltas → Fills lengths points (tuples ++ tuple ∷ []) (fills ++ deltas ∷ [])
+fills_push lengths points [] [] tuple deltas fill last = (last, tt)
+fills_push lengths points [] (f ∷ fills) tuple deltas fill last = absurd fill
+fills_push lengths points (t ∷ tuples) [] tuple deltas fill last = absurd fill
+fills_push lengths points (t ∷ tuples) (f ∷ fills) tuple deltas fill last = (fill.0, fills_push lengths points tuples fills tuple deltas fill.1 last)
+
+-- where all tuples have theirs, each one has
+pub fill_of_fills : (lengths : List ℕ) (points : List Pair) (tuples : List TupleVariation) (fills : List (List Pair)) (i : ℕ) (tuple : TupleVariation) → i < length tuples → tuple ≡ get_or tuples i tuple → Fills lengths points tuples fills → (deltas : List Pair) × FillsContours lengths points (named_delta tuple.points tuple.deltas) deltas
+fill_of_fills lengths points [] fills i tuple inside is fill = absurd (omega arith)
+fill_of_fills lengths points (t ∷ tuples) [] i tuple inside is fill = absurd fill
+fill_of_fills lengths points (t ∷ tuples) (f ∷ fills) zero tuple inside is fill = (f, rw is fill.0)
+fill_of_fills lengths points (t ∷ tuples) (f ∷ fills) (suc i) tuple inside is fill = fill_of_fills lengths points tuples fills i tuple (omega arith) is fill.1

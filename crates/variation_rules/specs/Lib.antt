@@ -7,3 +7,4 @@ pub mod InferredDelta
 pub mod DrawnOutline
 pub mod FontUnits
 pub mod PointDelta
+pub mod DrawnGlyph

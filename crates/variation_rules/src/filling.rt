@@ -12,7 +12,7 @@ use outside::NoMemory;
 use std::alloc::Global;
 
 // No movement.
-const STILL: Pair = Pair { x: 0, y: 0 };
+pub const STILL: Pair = Pair { x: 0, y: 0 };
 
 /// A point and its delta.
 #[derive(Clone, Copy)]
@@ -56,7 +56,7 @@ impl Moved {
 }
 
 // The delta that a tuple names for a point.
-fn named(tuple: &TupleVariation, point: usize) -> Option<Pair>
+pub fn named(tuple: &TupleVariation, point: usize) -> Option<Pair>
     ensures { result ≡ named_delta tuple.now.points tuple.now.deltas point }
 {
     let points = tuple.points.as_slice();

@@ -7,6 +7,7 @@
 //! tests compare with.
 #![tactic(auto)]
 
+mod drawing;
 mod filling;
 mod inferred;
 mod region;
@@ -14,6 +15,7 @@ mod runs;
 mod scalars;
 mod tuple;
 
+pub use drawing::{DrawnGlyph, DrawnPoint, draw};
 pub use filling::filled;
 pub use inferred::{Reference, inferred_delta};
 pub use region::Triple;
