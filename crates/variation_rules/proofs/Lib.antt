@@ -1,2 +1,3 @@
 pub mod DrawingLemmas
 pub mod InferredLemmas
+pub mod FillingLemmas

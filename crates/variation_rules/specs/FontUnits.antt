@@ -1,5 +1,5 @@
 -- Quantities in font design units (OpenType, "Data types": FWORD).
-use Rattle.std.specs.Prelude.{ℤ, pos, negsuc, ◌≤ℤ◌}
+use Rattle.std.specs.Prelude.{ℕ, ℤ, pos, negsuc, neg_ℤ, ◌≤ℤ◌}
 use Rattle.fixpoint.specs.declared.plane.Pair.{Pair}
 use Rattle.variation_rules.specs.declared.inferred.Reference.{Reference}
 
@@ -22,3 +22,8 @@ pub record IsReference (reference : Reference) : Type 0 where
 pub record IsDifference (z : ℤ) : Type 0 where
   pub low : negsuc 65534 ≤ℤ z
   pub high : z ≤ℤ pos 65535
+
+-- a quantity of so many 65536ths, either way
+pub record IsWithin (bound : ℕ) (z : ℤ) : Type 0 where
+  pub low : neg_ℤ (pos bound) ≤ℤ z
+  pub high : z ≤ℤ pos bound

@@ -6,3 +6,5 @@ pub mod Scalar
 pub mod InferredDelta
 pub mod DrawnOutline
 pub mod FontUnits
+pub mod PointDelta
+pub mod DrawnGlyph

@@ -7,12 +7,16 @@
 //! tests compare with.
 #![tactic(auto)]
 
+mod drawing;
+mod filling;
 mod inferred;
 mod region;
 mod runs;
 mod scalars;
 mod tuple;
 
+pub use drawing::{DrawnGlyph, DrawnPoint, draw};
+pub use filling::filled;
 pub use inferred::{Reference, inferred_delta};
 pub use region::Triple;
 pub use runs::{DeltaClass, PointClass};
