@@ -4,6 +4,7 @@ use Rattle.std.proofs.lemmas.List.Elements.{All-head, All-tail}
 use Rattle.variation_rules.specs.PackedDeltas.{DeltaRun, IsDeltaRun, AreLongDeltaRuns, PacksDeltas, class_of_delta, delta_bytes}
 use Rattle.variation_rules.specs.declared.runs.DeltaClass.{DeltaClass}
 use Rattle.gvar_table.specs.FirstRun.{GoesOn}
+use Rattle.gvar_table.proofs.FirstRun.{AreOwn}
 use Rattle.gvar_table.proofs.PackedDeltas.{bytes_of, values_of, IsOwn, all_of_both}
 
 -- Of two ways to cut one list, they cut at one place, or the second cuts behind the first, or before it.
@@ -19,10 +20,6 @@ by_cut (x ∷ a) b (y ∷ c) d e same behind before =
     (λ v w p q. let whole : y ∷ c ≡ x ∷ (a ++ v ∷ w) = cc in behind v w whole q)
     (λ v w p q. let whole : x ∷ a ≡ y ∷ (c ++ v ∷ w) = cc in before v w whole q)
 
--- the values of a run
-abbrev AreOwn : DeltaClass → List ℤ → Type 0
-AreOwn class values = All (λ value. class_of_delta value ≡ class) values
-
 -- two runs that begin one list are of one class
 one_class : (k l : DeltaClass) (a b c d : List ℤ) → 0 < length a → 0 < length c → AreOwn k a → AreOwn l c → a ++ b ≡ c ++ d → k ≡ l
 one_class k l [] b c d some more own other e = absurd (omega arith)
@@ -31,7 +28,7 @@ one_class k l (x ∷ a) b (y ∷ c) d some more own other e =
     let first : x ≡ y = cc in
     sym (All-head (λ v. class_of_delta v ≡ k) x a own) ∙ ap class_of_delta first ∙ All-head (λ v. class_of_delta v ≡ l) y c other
 
--- a full run isn't longer than another one of its class
+-- a run that is as long as it can be doesn't end before another run of the same list and class
 not_behind : (class : DeltaClass) (a b c d : List ℤ) (v : ℤ) (w : List ℤ) → (GoesOn class b → length a ≡ 64) → AreOwn class c → length c ≤ 64 → c ≡ a ++ v ∷ w → b ≡ (v ∷ w) ++ d → ⊥
 not_behind class a b c d v w long own few cut rest =
     let more = (all_of_both (λ value. class_of_delta value ≡ class) a (v ∷ w) (subst (AreOwn class) cut own)).1 in
@@ -58,6 +55,7 @@ long_first run (next ∷ runs) each own long goes =
     let some : 0 < length next.values = (All-head IsDeltaRun next runs each).some in
     long.0 (class_first run.class next.class next.values (values_of runs) some (All-head IsOwn next runs own) goes)
 
+-- the runs after the first one are as long as they can be, too
 long_rest : (run : DeltaRun) (runs : List DeltaRun) → AreLongDeltaRuns (run ∷ runs) → AreLongDeltaRuns runs
 long_rest run [] long = tt
 long_rest run (next ∷ runs) long = long.1

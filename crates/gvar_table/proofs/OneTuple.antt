@@ -27,6 +27,7 @@ number_fits value is =
     let high : value ≤ℤ pos 32767 = is.high in
     omega (arith, ints)
 
+-- and so do those of all deltas
 pub xs_fit : (deltas : List (ℤ × ℤ)) → All IsDelta deltas → All (FitsSigned w16) (map (λ (delta : ℤ × ℤ). delta.0) deltas)
 xs_fit deltas are = All-map (FitsSigned w16) (λ (delta : ℤ × ℤ). delta.0) deltas (λ k d h. number_fits _ (are k d h).x)
 
@@ -48,6 +49,7 @@ from_parts peak deltas slice x_bytes y_bytes bytes same few packs_x packs_y shor
   spelled = spelled;
 }
 
+-- so many point numbers are as many
 count_from_length : (n first : ℕ) → length (count_from n first) ≡ n
 count_from_length zero first = refl
 count_from_length (suc n) first = ap suc (count_from_length n (first + 1))
@@ -60,6 +62,7 @@ header peak = record { peak = embedded (peak ∷ []); intermediate = None; priva
 abbrev part : List ℕ → List ℕ → List ℕ
 part x_bytes y_bytes = 0 ∷ (x_bytes ++ y_bytes)
 
+-- the region of the header reaches from the default to the peak
 has_region : (peak : ℤ) → FitsSigned w16 peak → HasRegion 1 [] (header peak) (plain_triple peak ∷ [])
 has_region peak fits = record {
   peak = peak ∷ [];
@@ -68,6 +71,7 @@ has_region peak fits = record {
   region_is = refl;
 }
 
+-- the packed part stands for the points and the deltas of the tuple
 is_part : (Points : ℕ → List ℕ → List ℕ → Type 0) (Deltas : List ℕ → List ℤ → Type 0) (peak : ℤ) (deltas : List (ℤ × ℤ)) (x_bytes y_bytes : List ℕ)
     → Points (length deltas) (0 ∷ []) (count_from (length deltas) 0)
     → Deltas x_bytes (map (λ (delta : ℤ × ℤ). delta.0) deltas) → Deltas y_bytes (map (λ (delta : ℤ × ℤ). delta.1) deltas)

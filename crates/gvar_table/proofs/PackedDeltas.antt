@@ -10,6 +10,7 @@ use Rattle.variation_rules.specs.PackedDeltas.{DeltaRun, IsDeltaRun, AreLongDelt
 use Rattle.variation_rules.specs.declared.runs.DeltaClass.{DeltaClass}
 use Rattle.variation_rules.specs.declared.runs.DeltaClass.TheVariants.{Zeros, Bytes, Words}
 use Rattle.gvar_table.specs.FirstRun.{GoesOn, BeginsWithRun}
+use Rattle.gvar_table.proofs.FirstRun.{AreOwn}
 
 -- the bytes and the values of runs
 abbrev pub bytes_of : List DeltaRun → List ℕ
@@ -20,7 +21,7 @@ values_of runs = flat_map (λ run. run.values) runs
 
 -- the values of a run are of its class
 abbrev pub IsOwn : DeltaRun → Type 0
-IsOwn run = All (λ value. class_of_delta value ≡ run.class) run.values
+IsOwn run = AreOwn run.class run.values
 
 -- what holds of each value of two joined lists holds of each value of the one and of the other
 pub all_of_both : (P : ℤ → Type 0) (front back : List ℤ) → All P (front ++ back) → All P front × All P back
@@ -35,11 +36,12 @@ own_held Zeros value fits own = grind (arith, ints)
 own_held Bytes value fits own = grind (arith, ints)
 own_held Words value fits own = fits
 
-all_held : (class : DeltaClass) (run : List ℤ) → All (FitsSigned w16) run → All (λ value. class_of_delta value ≡ class) run → All (HoldsDelta class) run
+-- and so does a run in which all values are its own
+all_held : (class : DeltaClass) (run : List ℤ) → All (FitsSigned w16) run → AreOwn class run → All (HoldsDelta class) run
 all_held class run fits own k d h = own_held class (get_or run k d) (fits k d h) (own k d h)
 
 -- values that begin with some of one class go on with that class
-pub goes_on : (class next : DeltaClass) (values rest : List ℤ) → 0 < length values → All (λ value. class_of_delta value ≡ next) values → class ≡ next → GoesOn class (values ++ rest)
+goes_on : (class next : DeltaClass) (values rest : List ℤ) → 0 < length values → AreOwn next values → class ≡ next → GoesOn class (values ++ rest)
 goes_on class next [] rest some own same = absurd (omega arith)
 goes_on class next (value ∷ values) rest some own same = All-head (λ v. class_of_delta v ≡ next) value values own ∙ sym same
 
@@ -88,6 +90,7 @@ pub all_packed : (bytes : List ℕ) (rest all : List ℤ) → length rest ≡ 0 
 all_packed bytes [] all none completes = subst (λ (b : List ℕ). PacksDeltas b all) (append-nil bytes) (completes [] none_packed)
 all_packed bytes (value ∷ rest) all none completes = absurd (omega arith)
 
+-- a word takes two bytes
 words_length : (values : List ℤ) → length (flat_map signed_word values) ≡ 2 * length values
 words_length [] = refl
 words_length (value ∷ values) = omega (arith, words_length values)
@@ -98,6 +101,7 @@ run_length Zeros values some = omega arith
 run_length Bytes values some = omega (arith, length-map values (cast_unsigned w8))
 run_length Words values some = omega (arith, words_length values)
 
+-- and so do runs
 runs_length : (runs : List DeltaRun) → All IsDeltaRun runs → length (bytes_of runs) ≤ 3 * length (values_of runs)
 runs_length [] each = omega arith
 runs_length (run ∷ runs) each =

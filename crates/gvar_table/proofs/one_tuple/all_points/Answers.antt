@@ -1,3 +1,4 @@
+-- The two packed lists are behind the header, and what is written so means the tuple.
 use Rattle.std.proofs.Common.{ap, ◌∙◌, SFits}
 use Rattle.std.specs.Int.{w16}
 use Rattle.std.proofs.lemmas.Int.{to_z-of_z}

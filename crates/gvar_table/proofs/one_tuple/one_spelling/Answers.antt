@@ -1,3 +1,4 @@
+-- The law is the lemma.
 use Rattle.gvar_table.proofs.OneTuple.{same_tuple_bytes}
 use Rattle.gvar_table.proofs.one_tuple.one_spelling.Goals as goal
 

@@ -1,3 +1,4 @@
+-- The y numbers of deltas fit words.
 use Rattle.std.proofs.Common.{All, FitsSigned, subst, sym, ◌∙◌}
 use Rattle.std.specs.Int.{w16}
 use Rattle.gvar_table.proofs.OneTuple.{ys_fit}

@@ -1,3 +1,4 @@
+-- Each turn adds the first run of the rest; in the end no value is left.
 use Rattle.std.proofs.Common.{◌≡◌, All, FitsSigned, length, arith, subst}
 use Rattle.std.specs.Int.{w16}
 use Rattle.gvar_table.proofs.PackedDeltas.{run_added, all_of_both, all_packed, packed_length}

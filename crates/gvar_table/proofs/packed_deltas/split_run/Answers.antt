@@ -1,3 +1,4 @@
+-- The values counted in the class of the first one are the first run.
 use Rattle.std.proofs.Common.{get_or, pos, SFits, arith, rules}
 use Rattle.std.proofs.lemmas.Int.{to_z-of_z}
 use Rattle.std.specs.Int.{w32}
