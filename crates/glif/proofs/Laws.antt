@@ -14,8 +14,8 @@ use Rattle.glif.specs.Limits.{IsContourWithin, IsWithinLimits}
 use Rattle.glif.specs.Plain.{Number, Place, Written, number_text, value_of, contour_text, point_of, printing, meaning, IsRun, IsNumber, IsPlace, IsWritten, IsPlain}
 use Rattle.glif.specs.Reading.{◌>>=◌, after, glyph_name, name_at, quoted, is_run, number_at, many, contour_at, header_at, plain_drawing}
 use Rattle.glif.proofs.Many.{many_takes, many_again}
-use Rattle.glif.proofs.Pieces.{bind_some, after_takes, after_again, quoted_takes, quoted_again, unquoted, letter_apart, run_takes, run_again, number_at_takes, number_at_again}
-use Rattle.glif.proofs.Lines.{IsContourText, contour_takes, contour_again, contour_ended, pair_parts}
+use Rattle.glif.proofs.Pieces.{bind_some, pair_parts, after_takes, after_again, quoted_takes, quoted_parts, quoted_again, unquoted, letter_apart, run_takes, run_again, number_at_takes, number_at_again}
+use Rattle.glif.proofs.Lines.{IsContourText, contour_takes, contour_again, contour_ended}
 
 -- ---- names
 
@@ -30,9 +30,6 @@ record TakesName (bytes name rest : List ℕ) : Type 0 where
   named : IsRun is_ascii_alphabetic 63 name
   spelled : bytes ≡ name ++ 34 ∷ rest
 
-name_parts : (bytes text name back rest : List ℕ) → bytes ≡ text ++ 34 ∷ back → text ≡ name → back ≡ rest → bytes ≡ name ++ 34 ∷ rest
-name_parts bytes text name back rest p q r = cc
-
 name_takes : (bytes name rest : List ℕ) → name_at bytes ≡ Some (name, rest) → TakesName bytes name rest
 unfolding name_at
 name_takes bytes name rest found =
@@ -42,7 +39,7 @@ name_takes bytes name rest found =
     let run = glyph_name_takes quote.0.0 proper.0 proper.1 in
     record {
       named = subst (λ t. IsRun is_ascii_alphabetic 63 t) end.0 run.0;
-      spelled = name_parts bytes quote.0.0 name quote.0.1 rest (quoted_takes bytes quote.0.0 quote.0.1 quote.1) (run.1 ∙ end.0) end.1;
+      spelled = quoted_parts bytes quote.0.0 quote.0.1 name rest (quoted_takes bytes quote.0.0 quote.0.1 quote.1) (run.1 ∙ end.0) end.1;
     }
 
 name_again : (name rest : List ℕ) → IsRun is_ascii_alphabetic 63 name → name_at (name ++ 34 ∷ rest) ≡ Some (name, rest)
@@ -54,8 +51,8 @@ name_again name rest named = rw (quoted_again name rest (unquoted is_ascii_alpha
 abbrev header_before : List ℕ → List ℕ → List ℕ → List ℕ
 header_before name width rest = codes "<glyph name=\"" ++ (name ++ (codes "\" format=\"2\">\n<advance width=\"" ++ (width ++ (codes "\"/>\n<outline>\n" ++ rest))))
 
-header_parts : (bytes a name b c width d rest : List ℕ) → bytes ≡ codes "<glyph name=\"" ++ a → a ≡ name ++ 34 ∷ b → b ≡ codes " format=\"2\">\n<advance width=\"" ++ c → c ≡ width ++ 34 ∷ d → d ≡ codes "/>\n<outline>\n" ++ rest → bytes ≡ header_before name width rest
-header_parts bytes a name b c width d rest p q r s t = cc
+header_parts : (bytes a n b c width d e name rest : List ℕ) → bytes ≡ codes "<glyph name=\"" ++ a → a ≡ n ++ 34 ∷ b → n ≡ name → b ≡ codes " format=\"2\">\n<advance width=\"" ++ c → c ≡ width ++ 34 ∷ d → d ≡ codes "/>\n<outline>\n" ++ e → e ≡ rest → bytes ≡ header_before name width rest
+header_parts bytes a n b c width d e name rest h i j k l m o = cc
 
 record TakesHeader (bytes name : List ℕ) (advance : ℤ) (rest : List ℕ) : Type 0 where
   number : Number
@@ -91,11 +88,10 @@ header_takes bytes name advance rest found =
       named = subst (λ t. IsRun is_ascii_alphabetic 63 t) end.0 taken.named;
       wide = width.proper;
       spelled =
-          header_parts bytes a.0 name n.0.1 b.0 (number_text width.number) w.0.1 rest
-          (after_takes (codes "<glyph name=\"") bytes a.0 a.1)
-          (taken.spelled ∙ ap (λ t. t ++ 34 ∷ n.0.1) end.0)
+          header_parts bytes a.0 n.0.0 n.0.1 b.0 (number_text width.number) w.0.1 c.0 name rest
+          (after_takes (codes "<glyph name=\"") bytes a.0 a.1) taken.spelled end.0
           (after_takes (codes " format=\"2\">\n<advance width=\"") n.0.1 b.0 b.1) width.spelled
-          (after_takes (codes "/>\n<outline>\n") w.0.1 c.0 c.1 ∙ ap (λ t. codes "/>\n<outline>\n" ++ t) end.2);
+          (after_takes (codes "/>\n<outline>\n") w.0.1 c.0 c.1) end.2;
       means = sym end.1 ∙ width.means;
       least = subst (λ v. pos 0 ≤ℤ v) width.means width.least_value;
       greatest = subst (λ v. v ≤ℤ pos 16383) width.means width.greatest_value;

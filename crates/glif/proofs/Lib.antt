@@ -1,5 +1,5 @@
-pub mod Text
-pub mod Many
-pub mod Pieces
-pub mod Lines
+mod Text
+mod Many
+mod Pieces
+mod Lines
 pub mod Laws

@@ -11,13 +11,7 @@ use Rattle.glif.specs.Limits.{IsPointWithin, IsContourWithin}
 use Rattle.glif.specs.Plain.{Place, number_text, value_of, point_text, contour_text, point_of, IsPlace}
 use Rattle.glif.specs.Reading.{◌>>=◌, after, number_at, point_at, many, contour_at}
 use Rattle.glif.proofs.Many.{Takes, many_takes, many_again}
-use Rattle.glif.proofs.Pieces.{bind_some, after_takes, after_again, number_at_takes, number_at_again}
-
-pub pair_parts : {A B : Type 0} (a x : A) (b y : B) → ◌≡◌ {A = A × B} (a, b) (x, y) → (a ≡ x) × (b ≡ y)
-pair_parts a x b y e = (ap (λ p. p.0) e, ap (λ p. p.1) e)
-
-pair : {A B : Type 0} (a : A) (b : B) (x : A) (y : B) → a ≡ x → b ≡ y → ◌≡◌ {A = A × B} (a, b) (x, y)
-pair a b x y p q = ap (λ t. (t, b)) p ∙ ap (λ t. (x, t)) q
+use Rattle.glif.proofs.Pieces.{bind_some, pair_parts, after_takes, after_again, number_at_takes, number_at_again}
 
 -- ---- points
 
@@ -36,11 +30,11 @@ line_regroup p rest =
     (append_assoc (number_text p.0) (codes "\" y=\"" ++ (number_text p.1 ++ codes "\" type=\"line\"/>\n")) rest
     ∙ ap (λ t. number_text p.0 ++ (codes "\" y=\"" ++ t)) (append_assoc (number_text p.1) (codes "\" type=\"line\"/>\n") rest))
 
-line_parts : (bytes a x b c y d rest : List ℕ) → bytes ≡ codes "<point x=\"" ++ a → a ≡ x ++ 34 ∷ b → b ≡ codes " y=\"" ++ c → c ≡ y ++ 34 ∷ d → d ≡ codes " type=\"line\"/>\n" ++ rest → bytes ≡ line_before x y rest
-line_parts bytes a x b c y d rest p q r s t = cc
+line_parts : (bytes a b c d e rest : List ℕ) (p : Place) → bytes ≡ codes "<point x=\"" ++ a → a ≡ number_text p.0 ++ 34 ∷ b → b ≡ codes " y=\"" ++ c → c ≡ number_text p.1 ++ 34 ∷ d → d ≡ codes " type=\"line\"/>\n" ++ e → e ≡ rest → bytes ≡ point_text p ++ rest
+line_parts bytes a b c d e rest p h i j k l m = cc (line_regroup p rest)
 
 same_point : (x y : ℤ) (point : Point) (place : Place) → ◌≡◌ {A = Point} (record { x = x; y = y; on = true }) point → x ≡ value_of place.0 → y ≡ value_of place.1 → point ≡ point_of place
-same_point x y point place made p q = sym made ∙ ap (λ v. record { x = v.0; y = v.1; on = true }) (pair x y (value_of place.0) (value_of place.1) p q)
+same_point x y point place made p q = cc
 
 -- the steps after the first number, and after the second
 abbrev second_x : ℤ × List ℕ → Option (Point × List ℕ)
@@ -67,11 +61,10 @@ point_takes bytes point rest found =
       written = place;
       proper = record { numbers = (tx.proper, ty.proper); within = subst IsPointWithin same within };
       spelled =
-          line_parts bytes a.0 (number_text tx.number) x.0.1 b.0 (number_text ty.number) y.0.1 rest
+          line_parts bytes a.0 x.0.1 b.0 y.0.1 c.0 rest place
           (after_takes (codes "<point x=\"") bytes a.0 a.1) tx.spelled
           (after_takes (codes " y=\"") x.0.1 b.0 b.1) ty.spelled
-          (after_takes (codes " type=\"line\"/>\n") y.0.1 c.0 c.1 ∙ ap (λ t. codes " type=\"line\"/>\n" ++ t) end.1)
-          ∙ sym (line_regroup place rest);
+          (after_takes (codes " type=\"line\"/>\n") y.0.1 c.0 c.1) end.1;
       means = same;
     }
 
@@ -120,8 +113,8 @@ contour_proper ps some few proper =
 contour_regroup : (ps : List Place) (rest : List ℕ) → contour_text ps ++ rest ≡ codes "<contour>\n" ++ (flat_map point_text ps ++ (codes "</contour>\n" ++ rest))
 contour_regroup ps rest = ap (λ t. codes "<contour>\n" ++ t) (append_assoc (flat_map point_text ps) (codes "</contour>\n") rest)
 
-contour_parts : (bytes a points b rest : List ℕ) → bytes ≡ codes "<contour>\n" ++ a → a ≡ points ++ b → b ≡ codes "</contour>\n" ++ rest → bytes ≡ codes "<contour>\n" ++ (points ++ (codes "</contour>\n" ++ rest))
-contour_parts bytes a points b rest p q r = cc
+contour_parts : (bytes a b c rest : List ℕ) (ps : List Place) → bytes ≡ codes "<contour>\n" ++ a → a ≡ flat_map point_text ps ++ b → b ≡ codes "</contour>\n" ++ c → c ≡ rest → bytes ≡ contour_text ps ++ rest
+contour_parts bytes a b c rest ps h i j k = cc (contour_regroup ps rest)
 
 abbrev contour_end : List Point × List ℕ → Option (List Point × List ℕ)
 contour_end points = after (codes "</contour>\n") points.1 >>= λ rest. cond (nat_lt 0 (length points.0)) (Some (points.0, rest)) None
@@ -140,10 +133,9 @@ contour_takes bytes points rest found =
       written = ps.written;
       proper = contour_proper ps.written (omega (arith, ltb-true 0 (length read.0) test.0)) ps.few ps.proper;
       spelled =
-          contour_parts bytes a.0 (flat_map point_text ps.written) read.1 rest
+          contour_parts bytes a.0 read.1 b.0 rest ps.written
           (after_takes (codes "<contour>\n") bytes a.0 a.1) ps.spelled
-          (after_takes (codes "</contour>\n") read.1 b.0 b.1 ∙ ap (λ t. codes "</contour>\n" ++ t) end.1)
-          ∙ sym (contour_regroup ps.written rest);
+          (after_takes (codes "</contour>\n") read.1 b.0 b.1) end.1;
       means = sym end.0 ∙ ps.means;
     }
 

@@ -21,6 +21,9 @@ pub bind_some : {A B : Type 0} (o : Option A) (f : A → Option B) (y : B) → (
 bind_some (Some x) f y e = (x, refl, e)
 bind_some None f y e = absurd cc
 
+pub pair_parts : {A B : Type 0} (a x : A) (b y : B) → ◌≡◌ {A = A × B} (a, b) (x, y) → (a ≡ x) × (b ≡ y)
+pair_parts a x b y e = (ap (λ p. p.0) e, ap (λ p. p.1) e)
+
 int_le_true : (a b : ℤ) → int_le a b ≡ true → a ≤ℤ b
 int_le_true a b e = record { le = subst T (sym e) tt }
 
@@ -62,6 +65,9 @@ quoted_takes bytes text rest found =
     (ap (λ n. take n bytes) test.1 ∙ parts.0)
     (ap (λ n. drop (n + 1) bytes) test.1 ∙ parts.1)
     (eqb-true (get_or bytes first 0) 34 (passes_at_first is_quote bytes 0 within))
+
+pub quoted_parts : (bytes front back text rest : List ℕ) → bytes ≡ front ++ 34 ∷ back → front ≡ text → back ≡ rest → bytes ≡ text ++ 34 ∷ rest
+quoted_parts bytes front back text rest p q r = cc
 
 -- the text has no quotation mark
 abbrev pub IsUnquoted : List ℕ → Type 0
@@ -187,16 +193,15 @@ number_at_takes least bytes value rest found =
     let number = bind_some (number_of quote.0.0) (λ number. cond (int_le least number && int_le number (pos 16383)) (Some (number, quote.0.1)) None) (value, rest) quote.2 in
     let test = cond_some (int_le least number.0 && int_le number.0 (pos 16383)) (number.0, quote.0.1) (value, rest) number.2 in
     let bounds = and_parts (int_le least number.0) (int_le number.0 (pos 16383)) test.0 in
-    let same : number.0 ≡ value = ap (λ (p : ℤ × List ℕ). p.0) test.1 in
-    let after : quote.0.1 ≡ rest = ap (λ (p : ℤ × List ℕ). p.1) test.1 in
+    let end = pair_parts number.0 value quote.0.1 rest test.1 in
     let writes = number_takes quote.0.0 number.0 number.1 in
     record {
       number = writes.number;
       proper = writes.proper;
-      spelled = quoted_takes bytes quote.0.0 quote.0.1 quote.1 ∙ (ap (λ t. t ++ 34 ∷ quote.0.1) writes.spelled ∙ ap (λ t. number_text writes.number ++ 34 ∷ t) after);
-      means = sym same ∙ writes.means;
-      least_value = subst (λ v. least ≤ℤ v) same (int_le_true least number.0 bounds.0);
-      greatest_value = subst (λ v. v ≤ℤ pos 16383) same (int_le_true number.0 (pos 16383) bounds.1);
+      spelled = quoted_parts bytes quote.0.0 quote.0.1 (number_text writes.number) rest (quoted_takes bytes quote.0.0 quote.0.1 quote.1) writes.spelled end.1;
+      means = sym end.0 ∙ writes.means;
+      least_value = subst (λ v. least ≤ℤ v) end.0 (int_le_true least number.0 bounds.0);
+      greatest_value = subst (λ v. v ≤ℤ pos 16383) end.0 (int_le_true number.0 (pos 16383) bounds.1);
     }
 
 pub number_at_again : (least : ℤ) (number : Number) (rest : List ℕ) → IsNumber number → least ≤ℤ value_of number → value_of number ≤ℤ pos 16383 → number_at least (number_text number ++ 34 ∷ rest) ≡ Some (value_of number, rest)

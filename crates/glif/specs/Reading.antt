@@ -16,10 +16,10 @@ abbrev pub ◌>>=◌ : {A B : Type 0} → Option A → (A → Option B) → Opti
 (Some x) >>= f = f x
 None >>= f = None
 
--- a call found what reading finds, seen by view
-abbrev pub Finds : {X Y : Type 0} → (X → Y) → Option X → Option Y → Type 0
-Finds view (Some x) reading = reading ≡ Some (view x)
-Finds view None reading = reading ≡ None
+-- a call agrees with the reading: it found the same, seen by view, or nothing as well
+abbrev pub Agrees : {X Y : Type 0} → (X → Y) → Option X → Option Y → Type 0
+Agrees view (Some x) reading = reading ≡ Some (view x)
+Agrees view None reading = reading ≡ None
 
 -- the bytes after a fixed text
 unfoldable pub after : List ℕ → List ℕ → Option (List ℕ)

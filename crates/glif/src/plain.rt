@@ -5,7 +5,7 @@ ghost use Rattle.std.specs.Str.Parse.{digits_value};
 ghost use Rattle.glif.specs.declared.shape.Drawing.{Drawing};
 ghost use Rattle.glif.specs.Limits.{IsWithinLimits};
 ghost use Rattle.glif.specs.Plain.{IsPlain};
-ghost use Rattle.glif.specs.Reading.{Finds, Reads, after, quoted, glyph_name, size_of, number_of, number_at, point_at, many, contour_at, name_at, header_at, plain_drawing};
+ghost use Rattle.glif.specs.Reading.{Agrees, Reads, after, quoted, glyph_name, size_of, number_of, number_at, point_at, many, contour_at, name_at, header_at, plain_drawing};
 
 use crate::shape::{Drawing, Outline, Point};
 use outside::{Kind, Name, NoMemory, Seq, Spot, Stop};
@@ -26,7 +26,7 @@ const GLYPH_POINTS: usize = 4_000;
 /// The bytes after a fixed text, where they begin with it.
 #[tactic(auto, unfolding(crate::specs::Reading::after))]
 fn after<'a>(text: &[u8], bytes: &'a [u8]) -> Option<&'a [u8]>
-    ensures { Finds (λ rest. rest.now) result (after text.now bytes.now) }
+    ensures { Agrees (λ rest. rest.now) result (after text.now bytes.now) }
 {
     bytes.strip_prefix(text)
 }
@@ -42,7 +42,7 @@ fn quotation_mark(bytes: &[u8]) -> Option<usize>
 /// The bytes up to the first quotation mark, and those after it.
 #[tactic(auto, unfolding(crate::specs::Reading::quoted))]
 fn quoted(bytes: &[u8]) -> Option<(&[u8], &[u8])>
-    ensures { Finds (λ found. (found.0.now, found.1.now)) result (quoted bytes.now) }
+    ensures { Agrees (λ found. (found.0.now, found.1.now)) result (quoted bytes.now) }
 {
     let end = quotation_mark(bytes)?;
     Some((&bytes[..end], &bytes[end + 1..]))
@@ -72,7 +72,7 @@ fn value_of(digits: &[u8]) -> u32
 /// One to five digits, as a number.
 #[tactic(auto, unfolding(crate::specs::Reading::size_of, crate::specs::Reading::is_run))]
 fn size_of(text: &[u8]) -> Option<i32>
-    ensures value { Finds (λ size. size) result (size_of text.now) }
+    ensures value { Agrees (λ size. size) result (size_of text.now) }
     ensures small { IfSome result (λ size. (pos 0 ≤ℤ size) × (size ≤ℤ pos 99999)) }
 {
     if text.is_empty() || text.len() > 5 || !are_digits(text) {
@@ -84,7 +84,7 @@ fn size_of(text: &[u8]) -> Option<i32>
 /// Digits behind an optional minus sign.
 #[tactic(auto, unfolding(crate::specs::Reading::number_of))]
 fn number_of(text: &[u8]) -> Option<i32>
-    ensures { Finds (λ number. number) result (number_of text.now) }
+    ensures { Agrees (λ number. number) result (number_of text.now) }
 {
     match text {
         [] => None,
@@ -96,7 +96,7 @@ fn number_of(text: &[u8]) -> Option<i32>
 /// A number from `least` to `GREATEST`, up to the quotation mark, and the bytes after that.
 #[tactic(auto, unfolding(crate::specs::Reading::number_at))]
 fn number_at(least: i32, bytes: &[u8]) -> Option<(i32, &[u8])>
-    ensures { Finds (λ found. (found.0, found.1.now)) result (number_at least bytes.now) }
+    ensures { Agrees (λ found. (found.0, found.1.now)) result (number_at least bytes.now) }
 {
     let (text, rest) = quoted(bytes)?;
     let number = number_of(text)?;
@@ -110,7 +110,7 @@ fn number_at(least: i32, bytes: &[u8]) -> Option<(i32, &[u8])>
 /// The point that a `point` line writes, and the bytes after the line.
 #[tactic(auto, unfolding(crate::specs::Reading::point_at))]
 fn point_at(bytes: &[u8]) -> Option<(Point, &[u8])>
-    ensures { Finds (λ found. (found.0, found.1.now)) result (point_at bytes.now) }
+    ensures { Agrees (λ found. (found.0, found.1.now)) result (point_at bytes.now) }
 {
     let rest = after(b"<point x=\"", bytes)?;
     let (x, rest) = number_at(LEAST, rest)?;
@@ -139,7 +139,7 @@ fn points_at(alloc: Global, bytes: &[u8]) -> Result<(Vec<Point>, &[u8]), NoMemor
 /// The points from the line `<contour>` to its end, one at least, and the bytes after them.
 #[tactic(auto, unfolding(crate::specs::Reading::contour_at))]
 fn contour_at(alloc: Global, bytes: &[u8]) -> Result<Option<(Vec<Point>, &[u8])>, NoMemory>
-    ensures { IfOk result (λ found. Finds (λ found. (found.0.items, found.1.now)) found (contour_at bytes.now)) }
+    ensures { IfOk result (λ found. Agrees (λ found. (found.0.items, found.1.now)) found (contour_at bytes.now)) }
 {
     let Some(rest) = after(b"<contour>\n", bytes) else {
         return Ok(None);
@@ -194,7 +194,7 @@ fn are_letters(text: &[u8]) -> bool
 /// The text as a glyph's name, if it is 1 to 63 ASCII letters.
 #[tactic(auto, using(crate::proofs::Text::IsUtf8_from_letters), unfolding(crate::specs::Reading::glyph_name, crate::specs::Reading::is_run))]
 fn glyph_name(text: &[u8]) -> Option<&str>
-    ensures { Finds (λ name. name.now) result (glyph_name text.now) }
+    ensures { Agrees (λ name. name.now) result (glyph_name text.now) }
 {
     if text.is_empty() || text.len() > 63 || !are_letters(text) {
         return None;
@@ -205,7 +205,7 @@ fn glyph_name(text: &[u8]) -> Option<&str>
 /// The name before the first quotation mark, and the bytes after that.
 #[tactic(auto, unfolding(crate::specs::Reading::name_at))]
 fn name_at(bytes: &[u8]) -> Option<(&str, &[u8])>
-    ensures { Finds (λ found. (found.0.now, found.1.now)) result (name_at bytes.now) }
+    ensures { Agrees (λ found. (found.0.now, found.1.now)) result (name_at bytes.now) }
 {
     let (name, rest) = quoted(bytes)?;
     let name = glyph_name(name)?;
@@ -215,7 +215,7 @@ fn name_at(bytes: &[u8]) -> Option<(&str, &[u8])>
 /// The name and the advance width, and the bytes from the first contour on.
 #[tactic(auto, unfolding(crate::specs::Reading::header_at))]
 fn header_at(bytes: &[u8]) -> Option<(&str, i32, &[u8])>
-    ensures { Finds (λ found. (found.0.now, found.1, found.2.now)) result (header_at bytes.now) }
+    ensures { Agrees (λ found. (found.0.now, found.1, found.2.now)) result (header_at bytes.now) }
 {
     let rest = after(b"<glyph name=\"", bytes)?;
     let (name, rest) = name_at(rest)?;
