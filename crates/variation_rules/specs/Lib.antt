@@ -5,3 +5,7 @@ pub mod TupleVariations
 pub mod Scalar
 pub mod InferredDelta
 pub mod DrawnOutline
+pub mod Decoding
+pub mod DecodingDeltas
+pub mod DecodingPoints
+pub mod DecodingTuples

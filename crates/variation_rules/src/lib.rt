@@ -7,10 +7,18 @@
 //! tests compare with.
 #![tactic(auto)]
 
+mod fields;
+mod header;
+mod packed;
+mod reader;
+#[cfg(test)]
+mod reading_tests;
+mod refusal;
 mod region;
 mod runs;
 mod tuple;
 
+pub use reader::{one_reading, read_tuples};
 pub use region::Triple;
 pub use runs::{DeltaClass, PointClass};
 pub use tuple::TupleVariation;
