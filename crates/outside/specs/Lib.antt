@@ -4,6 +4,7 @@ pub mod Reading
 pub mod Found
 pub mod Counting
 pub mod FirstAt
+pub mod Answered
 pub mod SureSources
 pub mod MemorySources
 pub mod Stored
