@@ -68,7 +68,7 @@ impl Say for MemorySay {
         ensures failing { failing_of self.new ≡ failing_of self.old }
         ensures next { next_of self.new ≡ next_number (next_of self.old) }
     {
-        if self.failures.is_due() {
+        if self.failures.next_fails() {
             self.inner.cut_short(&bytes[..bytes.len() / 2]);
             return Err(Failed);
         }

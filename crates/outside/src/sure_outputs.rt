@@ -1,4 +1,4 @@
-ghost use Rattle.std.specs.Prelude.{◌≡◌, ℕ, List, [], Option, None, Some, IsSome, IfOk, OnOk, OnErr, option_map};
+ghost use Rattle.std.specs.Prelude.{◌≡◌, ℕ, List, [], None, Some, IsSome, IfOk, OnOk, OnErr, option_map};
 ghost use Rattle.std.specs.Bool.{OnTrue, OnFalse};
 ghost use Rattle.std.proofs.Props.{props};
 ghost use Rattle.outside.specs.Placed.{paths_of, IsFirst};
@@ -22,7 +22,7 @@ pub struct SureOutputs {
 
 impl SureOutputs {
     ghost use Rattle.outside.specs.Counting.{one_more};
-    ghost use Rattle.outside.specs.Files.{put, add};
+    ghost use Rattle.outside.specs.Files.{add};
     ghost use Rattle.outside.specs.FirstAt.{first_room, no_files};
     ghost use Rattle.outside.specs.Stored.{FitsAt, ExceedsAt, fitting_at};
     ghost use Rattle.outside.specs.SureOutputs.{files_of, room_of, begun_of, faults_of};
@@ -94,7 +94,7 @@ impl SureOutputs {
 
 impl Outputs for SureOutputs {
     ghost use Rattle.outside.specs.Counting.{count_after};
-    ghost use Rattle.outside.specs.Files.{put, add, content, IsFront, Exceeds};
+    ghost use Rattle.outside.specs.Files.{put, add, IsFront};
     ghost use Rattle.outside.specs.Stored.{FitsAt, ExceedsAt, fitting_at};
     ghost use Rattle.outside.specs.SureOutputs.{files_of, room_of, begun_of, faults_of};
 

@@ -6,8 +6,8 @@ use Rattle.outside.specs.Stored.{fitting_at, first_half}
 use Rattle.outside.proofs.Cut.{IsFront-half_at}
 use Rattle.outside.proofs.memory_outputs.MemoryOutputsOutputs.append.Goals as goal
 
-pub returns-then-is_due-clause-err : goal.returns-then-is_due-clause-err
-returns-then-is_due-clause-err c =
+pub returns-then-next_fails-clause-err : goal.returns-then-next_fails-clause-err
+returns-then-next_fails-clause-err c =
     let old = c.args.self.now in
     let piece = c.args.bytes.now in
     let front = fitting_at (room_of old) (files_of old) (begun_of old) (first_half piece) in
