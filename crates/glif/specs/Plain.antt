@@ -1,5 +1,7 @@
--- A plain drawing: a file of fixed lines, with a name, a width and the points of contours in their places.
-use Rattle.std.specs.Prelude.{◌≡◌, ℕ, ◌≤◌, ℤ, pos, neg_ℤ, Bool, true, List, [], ◌∷◌, ◌++◌, length, map, All, codes, flat_map, if◌then◌else◌}
+-- Plain drawings: files of fixed lines, with a name, an advance width and the points of contours in their
+-- places. Each is the text of something written, which has a meaning and keeps conditions. The text isn't
+-- a function of the meaning, since 7 is written 7 and 007.
+use Rattle.std.specs.Prelude.{◌≡◌, ℕ, ◌≤◌, ℤ, pos, neg_ℤ, Bool, true, List, [], ◌++◌, length, map, All, codes, flat_map, if◌then◌else◌}
 use Rattle.std.specs.List.{AllPass}
 use Rattle.std.specs.Char.{is_ascii_alphabetic, is_ascii_digit}
 use Rattle.std.specs.Str.Parse.{digits_value}
@@ -25,7 +27,7 @@ pub record Written : Type 0 where
 -- ---- the text
 
 abbrev pub number_text : Number → List ℕ
-number_text n = if n.negative then 45 ∷ n.digits else n.digits
+number_text n = if n.negative then codes "-" ++ n.digits else n.digits
 
 abbrev pub point_text : Place → List ℕ
 point_text p = codes "<point x=\"" ++ (number_text p.0 ++ (codes "\" y=\"" ++ (number_text p.1 ++ codes "\" type=\"line\"/>\n")))

@@ -1,4 +1,5 @@
--- The drawing of a file, read from left to right. Each piece is a value and the bytes that follow it.
+-- The drawing of a file, read from left to right. A reader of a piece finds its value and the bytes that
+-- follow it, or nothing. 34 is the quotation mark, and 45 the minus sign.
 use Rattle.std.specs.Prelude.{◌≡◌, ℕ, zero, suc, ◌+◌, ℤ, pos, negsuc, neg_ℤ, int_le, Bool, true, not, ◌&&◌, List, [], ◌∷◌, length, take, drop, codes, sum_by, Option, Some, None, Result, Ok, Err, nat_lt, nat_le, ◌==◌, bytes_eq, position, if◌then◌else◌}
 use Rattle.std.specs.List.{list_all}
 use Rattle.std.specs.Char.{is_ascii_alphabetic, is_ascii_digit}
@@ -51,6 +52,7 @@ number_at least bytes = do
   number ← number_of found.0
   if int_le least number && int_le number (pos 16383) then Some (number, found.1) else None
 
+-- the point of a line, which is ended
 unfoldable pub point_at : List ℕ → Option (Point × List ℕ)
 point_at bytes = do
   rest ← after (codes "<point x=\"") bytes
@@ -60,18 +62,21 @@ point_at bytes = do
   rest ← after (codes " type=\"line\"/>\n") y.1
   Some (record { x = x.0; y = y.0; on = true }, rest)
 
--- the items that stand one after another at the front, n at most, and the bytes that follow them
+-- one more value in front of those that were found
 abbrev pub with_first : {A : Type 0} → A → List A × List ℕ → List A × List ℕ
 with_first x found = (x ∷ found.0, found.1)
 
+-- the others are looked for only behind an item
 abbrev pub many_step : {A : Type 0} → (List ℕ → List A × List ℕ) → List ℕ → Option (A × List ℕ) → List A × List ℕ
 many_step others bytes None = ([], bytes)
 many_step others bytes (Some x) = with_first x.0 (others x.1)
 
+-- the items that stand one after another at the front, n at most, and the bytes that follow them
 unfoldable pub many : {A : Type 0} → (List ℕ → Option (A × List ℕ)) → ℕ → List ℕ → List A × List ℕ
 many item zero bytes = ([], bytes)
 many item (suc n) bytes = many_step (many item n) bytes (item bytes)
 
+-- the points of a contour, from its first line to its last
 unfoldable pub contour_at : List ℕ → Option (List Point × List ℕ)
 contour_at bytes = do
   rest ← after (codes "<contour>\n") bytes
@@ -110,7 +115,7 @@ plain_drawing text = do
       then Some (record { name = header.0; outline = record { advance = header.1; contours = contours.0 }; components = []; codes = [] })
       else None
 
--- the spot of a file that isn't a plain drawing
+-- what is told of a file that isn't a plain drawing: its kind alone
 abbrev pub not_built : Spot
 not_built = record { kind = NotBuilt; item = []; at = 0; also = 0; first = pos 0; second = pos 0 }
 

@@ -23,6 +23,12 @@ const CONTOUR_POINTS: usize = 1_024;
 /// The most points of a glyph, and so the most contours.
 const GLYPH_POINTS: usize = 4_000;
 
+/// The most letters of a name.
+const LETTERS: usize = 63;
+
+/// The most digits of a number.
+const DIGITS: usize = 5;
+
 /// The bytes after a fixed text, where they begin with it.
 #[tactic(auto, unfolding(crate::specs::Reading::after))]
 fn after<'a>(text: &[u8], bytes: &'a [u8]) -> Option<&'a [u8]>
@@ -75,7 +81,7 @@ fn size_of(text: &[u8]) -> Option<i32>
     ensures value { Agrees (λ size. size) result (size_of text.now) }
     ensures small { IfSome result (λ size. (pos 0 ≤ℤ size) × (size ≤ℤ pos 99999)) }
 {
-    if text.is_empty() || text.len() > 5 || !are_digits(text) {
+    if text.is_empty() || text.len() > DIGITS || !are_digits(text) {
         return None;
     }
     Some(value_of(text) as i32)
@@ -196,7 +202,7 @@ fn are_letters(text: &[u8]) -> bool
 fn glyph_name(text: &[u8]) -> Option<&str>
     ensures { Agrees (λ name. name.now) result (glyph_name text.now) }
 {
-    if text.is_empty() || text.len() > 63 || !are_letters(text) {
+    if text.is_empty() || text.len() > LETTERS || !are_letters(text) {
         return None;
     }
     str::from_utf8(text).ok()
