@@ -39,7 +39,7 @@ no_none : {X : Type 0} (x : Option X) → IsSome x → x ≡ None → ⊥
 no_none None some none = cc
 no_none (Some x) some none = cc
 
-some_is_some : {X : Type 0} (x : Option X) (y : X) → x ≡ Some y → IsSome x
+pub some_is_some : {X : Type 0} (x : Option X) (y : X) → x ≡ Some y → IsSome x
 some_is_some x y same = subst IsSome (sym same) refl
 
 -- the nearest place before q is, on the cycle, the one found before a place that is q on the cycle

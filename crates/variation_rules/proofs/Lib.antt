@@ -13,3 +13,5 @@ pub mod DecodingPointRuns
 pub mod DecodingHeaders
 pub mod DecodingTupleParts
 pub mod DecodingGlyph
+pub mod FillsAreOne
+pub mod FontUnitLemmas

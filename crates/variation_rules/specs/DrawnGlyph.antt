@@ -18,3 +18,11 @@ pub record IsDrawn (lengths : List ℕ) (points : List Pair) (advance : ℤ) (tu
   pub x : (i : ℕ) → i < length points → (drawn_point glyph i).x ≡ drawn (λ (point : Pair). point.x) points at tuples fills i
   pub y : (i : ℕ) → i < length points → (drawn_point glyph i).y ≡ drawn (λ (point : Pair). point.y) points at tuples fills i
   pub advance_is : glyph.advance ≡ drawn_advance advance (length points) at tuples
+
+-- at most one list of deltas fills the outline in each tuple
+abbrev pub FillOnce : Type 0
+FillOnce = (lengths : List ℕ) (points : List Pair) (tuples : List TupleVariation) (one other : List (List Pair)) → Fills lengths points tuples one → Fills lengths points tuples other → one ≡ other
+
+-- and so a glyph has one drawing at most at a location
+abbrev pub DrawOnce : Type 0
+DrawOnce = (lengths : List ℕ) (points : List Pair) (advance : ℤ) (tuples : List TupleVariation) (at : List ℤ) (one other : DrawnGlyph) → IsDrawn lengths points advance tuples at one → IsDrawn lengths points advance tuples at other → one ≡ other

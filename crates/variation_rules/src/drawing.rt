@@ -1,6 +1,6 @@
 ghost use Rattle.std.specs.Prelude.{◌≡◌, ℤ, pos, ◌<◌, ◌^◌, ◌≤ℤ◌, ◌*ℤ◌, All, IfOk, IfSome, List, MatchOption, length, slice_index_or, sum, unwrap_or};
 ghost use Rattle.fixpoint.specs.declared.plane.Pair.{Pair};
-ghost use Rattle.variation_rules.specs.DrawnGlyph.{IsDrawn};
+ghost use Rattle.variation_rules.specs.DrawnGlyph.{DrawOnce, FillOnce, IsDrawn};
 ghost use Rattle.variation_rules.specs.DrawnOutline.{Fills, drawn, drawn_advance, named_delta};
 ghost use Rattle.variation_rules.specs.FontUnits.{AreFWords, IsFWord, IsWithin};
 ghost use Rattle.variation_rules.specs.InferredDelta.{still};
@@ -189,3 +189,10 @@ pub fn draw(
         advance: moved_advance(advance, points.len(), tuples, at),
     }))
 }
+
+/// The law that the tuple variations of a glyph have one drawing at most at a location, since at most
+/// one list of deltas fills the outline in each tuple.
+pub fn one_drawing()
+    ensures fills { FillOnce }
+    ensures drawn { DrawOnce }
+{}

@@ -22,7 +22,7 @@ mod runs;
 mod scalars;
 mod tuple;
 
-pub use drawing::{DrawnGlyph, DrawnPoint, draw};
+pub use drawing::{DrawnGlyph, DrawnPoint, draw, one_drawing};
 pub use filling::filled;
 pub use inferred::{Reference, inferred_delta};
 pub use reader::{one_reading, read_tuples};
