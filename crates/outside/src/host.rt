@@ -1,6 +1,7 @@
 ghost use Rattle.std.specs.Prelude.{◌≡◌, [], None, Some, IfOk, IsSome, is_ok, is_some, if◌then◌else◌};
 ghost use Rattle.outside.specs.Counting.{count_after};
-ghost use Rattle.outside.specs.Found.{IsWithin, count_after_read};
+ghost use Rattle.outside.specs.Answered.{count_after_read};
+ghost use Rattle.outside.specs.Found.{IsWithin};
 ghost use Rattle.outside.specs.Stream.{IsCounted, GrowsFile};
 
 use crate::fault::Failed;
