@@ -9,6 +9,7 @@
 
 mod region;
 mod runs;
+mod scalar;
 mod tuple;
 
 pub use region::Triple;

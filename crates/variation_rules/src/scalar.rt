@@ -1,0 +1,68 @@
+ghost use Rattle.std.specs.Prelude.{◌≡◌, ℤ, pos, ◌<ℤ◌, ◌≤ℤ◌, FitsSigned};
+ghost use Rattle.std.specs.Int.{w32};
+ghost use Rattle.variation_rules.specs.Scalar.{is_ignored, height, factor};
+
+use crate::region::Triple;
+
+/// A part of a whole: a number from 0 to 1.
+struct Fraction {
+    part: i64,
+    whole: i64,
+}
+
+// Whether the axis is left out of the scalar.
+fn is_ignored(triple: &Triple) -> bool
+    ensures { result ≡ is_ignored triple.now }
+{
+    let (start, peak, end) = (triple.start.wide(), triple.peak.wide(), triple.end.wide());
+    peak == 0 || peak < start || end < peak || (start < 0 && 0 < end)
+}
+
+// The factor of an axis that counts.
+fn height(triple: &Triple, value: i64) -> Fraction
+    requires { FitsSigned w32 value }
+    ensures part { result.part ≡ (height triple.now value).0 }
+    ensures whole { result.whole ≡ (height triple.now value).1 }
+    ensures low { pos 0 ≤ℤ result.part }
+    ensures high { result.part ≤ℤ result.whole }
+    ensures some { pos 0 <ℤ result.whole }
+{
+    let (start, peak, end) = (triple.start.wide(), triple.peak.wide(), triple.end.wide());
+    if value < peak {
+        if value <= start {
+            Fraction { part: 0, whole: 1 }
+        } else {
+            Fraction {
+                part: value - start,
+                whole: peak - start,
+            }
+        }
+    } else if peak < value {
+        if end <= value {
+            Fraction { part: 0, whole: 1 }
+        } else {
+            Fraction {
+                part: end - value,
+                whole: end - peak,
+            }
+        }
+    } else {
+        Fraction { part: 1, whole: 1 }
+    }
+}
+
+// The factor of any axis.
+fn factor(triple: &Triple, value: i64) -> Fraction
+    requires { FitsSigned w32 value }
+    ensures part { result.part ≡ (factor triple.now value).0 }
+    ensures whole { result.whole ≡ (factor triple.now value).1 }
+    ensures low { pos 0 ≤ℤ result.part }
+    ensures high { result.part ≤ℤ result.whole }
+    ensures some { pos 0 <ℤ result.whole }
+{
+    if is_ignored(triple) {
+        Fraction { part: 1, whole: 1 }
+    } else {
+        height(triple, value)
+    }
+}
