@@ -3,3 +3,4 @@ pub mod Faults
 pub mod Lines
 pub mod Glyph
 pub mod Outcome
+pub mod Words

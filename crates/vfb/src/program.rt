@@ -3,6 +3,13 @@ ghost use Rattle.outside.specs.Files.{content, HasRisen};
 ghost use Rattle.vfb.specs.Command.{command_of};
 ghost use Rattle.vfb.specs.Outcome.{IsAnswer, WritesNothing, IsWritten, IsSaid, IsCut, Draws, HasDrawings, LacksRoom, EndsBy};
 
+use crate::ending::{Ending, say_ending};
+use crate::status::Status;
+use crate::tuples::tuples;
+use crate::words::parse;
+use outside::{Outputs, Say, Sources};
+use std::alloc::Global;
+
 /// Does what the words ask for ...
 pub fn run<S: Sources, O: Outputs, T: Say>(alloc: Global, words: &Vec<String>, sources: &mut S, outputs: &mut O, say: &mut T) -> Status
     // The words alone decide on Usage.
@@ -24,3 +31,12 @@ pub fn run<S: Sources, O: Outputs, T: Say>(alloc: Global, words: &Vec<String>, s
     // Nothing gives up but for memory.
     ensures complete { S.tells sources.old → HasDrawings (command_of (map string_bytes words.now.items)) (S.files sources.old) → ¬ (HasRisen (S.faults sources.old) (S.faults sources.new)) → ¬ (HasRisen (O.faults outputs.old) (O.faults outputs.new)) → ¬ (HasRisen (T.faults say.old) (T.faults say.new)) → EndsBy ⊥ result }
     ensures complete_sure { S.tells sources.old → S.is_sure sources.old → O.tells outputs.old → O.is_sure outputs.old → T.tells say.old → T.is_sure say.old → HasDrawings (command_of (map string_bytes words.now.items)) (S.files sources.old) → EndsBy (LacksRoom (command_of (map string_bytes words.now.items)) (S.files sources.old) (O.room outputs.old) (T.room say.old) (T.said say.old)) result }
+{
+    let ending = match parse(words) {
+        Some(command) => tuples(alloc, &command, sources, outputs, say),
+        None => Ending::Usage,
+    };
+    // Where the line can't be said, the status tells all the same.
+    let _ = say_ending(say, &ending);
+    ending.into_status()
+}
