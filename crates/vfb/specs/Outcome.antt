@@ -84,8 +84,8 @@ IsSaid (Some command) files risen old new status = SaysOf command (drawings_of f
 abbrev pub Fails : Tuples → Result (Drawing × Drawing) Fault → Type 0 → Files → Files → List ℕ → List ℕ → Type 0
 Fails command (Err _) risen old new said_old said_new = ⊥
 Fails command (Ok drawings) risen old new said_old said_new = (bytes : List ℕ) × IsData drawings.0 drawings.1 bytes
-  × ((IsCutShort command.out bytes old new × AddsLine risen (write_fault_line command.out) said_old said_new)
-   ⊎ ((new ≡ put old command.out bytes) × BreaksOff risen (summary drawings.0 drawings.1) said_old said_new))
+    × ((IsCutShort command.out bytes old new × AddsLine risen (write_fault_line command.out) said_old said_new)
+    ⊎ ((new ≡ put old command.out bytes) × BreaksOff risen (summary drawings.0 drawings.1) said_old said_new))
 
 abbrev pub IsCut : Option Tuples → Files → Type 0 → Files → Files → List ℕ → List ℕ → Type 0
 IsCut None files risen old new said_old said_new = ⊥
@@ -110,7 +110,7 @@ abbrev pub Overflows : Result (Drawing × Drawing) Fault → Option ℕ → ℕ 
 Overflows (Err _) room say_room said = ⊥
 Overflows (Ok drawings) room say_room said =
     ((bytes : List ℕ) × IsData drawings.0 drawings.1 bytes × Exceeds room 0 (length bytes))
-  ⊎ (say_room < length said + length (summary drawings.0 drawings.1))
+    ⊎ (say_room < length said + length (summary drawings.0 drawings.1))
 
 abbrev pub LacksRoom : Option Tuples → Files → (List ℕ → Option ℕ) → ℕ → List ℕ → Type 0
 LacksRoom None files room say_room said = ⊥

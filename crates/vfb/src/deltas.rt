@@ -1,8 +1,11 @@
-ghost use Rattle.std.specs.Prelude.{◌≡◌, IfOk};
-ghost use Rattle.glif.specs.Limits.{IsWithinLimits};
-ghost use Rattle.vfb.specs.Glyph.{deltas_of, IsData};
+ghost use Rattle.std.specs.Prelude.{◌≡◌, ◌-ℤ◌, map, flat_map, All, IfOk};
+ghost use Rattle.std.specs.List.{list_all};
+ghost use Rattle.glif.specs.Limits.{IsPointWithin, IsWithinLimits};
+ghost use Rattle.vfb.specs.Compatible.{AreCompatible};
+ghost use Rattle.vfb.specs.Glyph.{place, moves, deltas_of, is_still, IsData, DrawsBetween};
+ghost use Rattle.vfb.specs.Lines.{counts_line, summary};
 
-use glif::{Drawing, Point};
+use glif::{Drawing, Outline, Point};
 use gvar_table::all_points;
 use outside::{NoMemory, Seq};
 use std::alloc::Global;
@@ -23,38 +26,59 @@ pub(crate) struct GlyphData {
     pub(crate) points: u64,
 }
 
-/// Adds the way from each point of a contour to that of the other drawing.
-fn push_moves(
-    deltas: &mut Vec<(i32, i32)>,
-    first: &[Point],
-    second: &[Point],
-) -> Result<(), NoMemory> {
-    for (from, to) in first.iter().zip(second) {
-        deltas.push((to.x - from.x, to.y - from.y))?;
+/// All points of the outline, contour by contour.
+fn points_of(alloc: Global, outline: &Outline) -> Result<Vec<Point>, NoMemory>
+    ensures { IfOk result (λ points. points.items ≡ flat_map (λ contour. contour) outline.now.contours) }
+{
+    let mut points = Vec::new(alloc);
+    for contour in outline.contours.as_slice() {
+        points.extend_from_slice(contour.as_slice())?;
     }
-    Ok(())
+    Ok(points)
+}
+
+/// The way from a point to another.
+fn way(start: &Point, end: &Point) -> (i32, i32)
+    requires start { IsPointWithin start.now }
+    requires end { IsPointWithin end.now }
+    ensures x { result.0 ≡ end.now.x -ℤ start.now.x }
+    ensures y { result.1 ≡ end.now.y -ℤ start.now.y }
+{
+    (end.x - start.x, end.y - start.y)
+}
+
+/// The way from each point to the other drawing's.
+fn moves(alloc: Global, from: &[Point], to: &[Point]) -> Result<Vec<(i32, i32)>, NoMemory>
+    requires from { All IsPointWithin from.now }
+    requires to { All IsPointWithin to.now }
+    ensures { IfOk result (λ ways. ways.items ≡ moves (map place from.now) (map place to.now)) }
+{
+    let mut ways = Vec::new(alloc);
+    for (start, end) in from.iter().zip(to) {
+        ways.push(way(start, end))?;
+    }
+    Ok(ways)
 }
 
 /// The deltas from the first drawing to the second: those of the outline's points, and those of the
 /// four phantom points, of which the second stands at the advance (OpenType, "glyf" and "gvar").
-fn deltas_of(
-    alloc: Global,
-    first: &Drawing,
-    second: &Drawing,
-) -> Result<Seq<(i32, i32)>, NoMemory> {
-    let mut deltas = Vec::new(alloc);
-    let (from, to) = (&first.outline, &second.outline);
-    for (contour, other) in from.contours.as_slice().iter().zip(to.contours.as_slice()) {
-        push_moves(&mut deltas, contour.as_slice(), other.as_slice())?;
-    }
-    for delta in [(0, 0), (to.advance - from.advance, 0), (0, 0), (0, 0)] {
-        deltas.push(delta)?;
-    }
+fn deltas_of(alloc: Global, first: &Drawing, second: &Drawing) -> Result<Seq<(i32, i32)>, NoMemory>
+    requires first_within { IsWithinLimits first.now.outline }
+    requires second_within { IsWithinLimits second.now.outline }
+    ensures { IfOk result (λ deltas. deltas ≡ deltas_of first.now second.now) }
+{
+    let from = points_of(alloc, &first.outline)?;
+    let to = points_of(alloc, &second.outline)?;
+    let mut deltas = moves(alloc, &from, &to)?;
+    let advance = second.outline.advance - first.outline.advance;
+    deltas.extend_from_slice(&[(0, 0), (advance, 0), (0, 0), (0, 0)])?;
     Ok(Seq::from_vec(deltas))
 }
 
 /// Whether nothing moves.
-fn are_still(deltas: &[(i32, i32)]) -> bool {
+fn are_still(deltas: &[(i32, i32)]) -> bool
+    ensures { result ≡ list_all is_still deltas.now }
+{
     deltas.iter().all(|delta| delta.0 == 0 && delta.1 == 0)
 }
 
@@ -63,7 +87,12 @@ pub(crate) fn data_of(
     alloc: Global,
     first: &Drawing,
     second: &Drawing,
-) -> Result<GlyphData, NoMemory> {
+) -> Result<GlyphData, NoMemory>
+    requires { AreCompatible first.now second.now }
+    ensures bytes { IfOk result (λ glyph. IsData first.now second.now glyph.bytes.items) }
+    ensures counts { IfOk result (λ glyph. counts_line glyph.tuples glyph.explicit glyph.points ≡ summary first.now second.now) }
+    ensures draws { IfOk result (λ glyph. DrawsBetween first.now second.now glyph.bytes.items) }
+{
     let deltas = deltas_of(alloc, first, second)?;
     if are_still(deltas.as_slice()) {
         return Ok(GlyphData {

@@ -1,7 +1,9 @@
-ghost use Rattle.std.specs.Prelude.{◌≡◌, ◌⊎◌, map, IfOk, length, nat_eq};
-ghost use Rattle.std.specs.Cmp.Lexicographic.{pointwise};
+ghost use Rattle.std.specs.Prelude.{◌≡◌, ◌↔◌, ◌⊎◌, map, length, IsTrue, IfOk};
 ghost use Rattle.glif.specs.Limits.{IsWithinLimits};
-ghost use Rattle.vfb.specs.Faults.{file_fault, drawing_or, drawing_in, drawings_by, drawings_of};
+ghost use Rattle.glif.specs.Reading.{plain_drawing};
+ghost use Rattle.vfb.specs.Compatible.{AreCompatible};
+ghost use Rattle.vfb.specs.Faults.{file_fault, drawing_or, drawing_in, drawings_of};
+ghost use Rattle.vfb.specs.Stops.{Refuses, IsReadFrom, NeverFails, Reads};
 ghost use Rattle.vfb.specs.Words.{asked};
 
 use crate::words::Command;
@@ -41,7 +43,9 @@ fn file_fault(alloc: Global, kind: Kind, path: &str) -> Result<Fault, NoMemory>
 }
 
 /// Stops with a fault of the file at `path`.
-fn refuse<'a>(alloc: Global, kind: Kind, path: &str) -> ReadStop<'a> {
+fn refuse<'a>(alloc: Global, kind: Kind, path: &str) -> ReadStop<'a>
+    ensures { Refuses (file_fault kind path.now) result }
+{
     match file_fault(alloc, kind, path) {
         Ok(fault) => ReadStop::Refused(fault),
         Err(NoMemory) => ReadStop::NoMemory,
@@ -49,7 +53,11 @@ fn refuse<'a>(alloc: Global, kind: Kind, path: &str) -> ReadStop<'a> {
 }
 
 /// The drawing that the bytes of the file at `path` are.
-fn drawing_of<'a>(alloc: Global, path: &str, bytes: &[u8]) -> Result<Drawing, ReadStop<'a>> {
+fn drawing_of<'a>(alloc: Global, path: &str, bytes: &[u8]) -> Result<Drawing, ReadStop<'a>>
+    ensures reads { IsReadFrom (drawing_or (plain_drawing bytes.now) path.now) result }
+    ensures never { NeverFails result }
+    ensures within { IfOk result (λ drawing. IsWithinLimits drawing.outline) }
+{
     match read_plain(alloc, bytes) {
         Ok(drawing) => Ok(drawing),
         Err(Stop::At(spot)) => Err(refuse(alloc, spot.kind, path)),
@@ -62,7 +70,10 @@ fn read_drawing<'a, S: Sources>(
     alloc: Global,
     path: &'a str,
     sources: &mut S,
-) -> Result<Drawing, ReadStop<'a>> {
+) -> Result<Drawing, ReadStop<'a>>
+    ensures reads { Reads S.tells S.files S.faults S.is_sure sources.old sources.new (λ named. named ≡ path.now) (drawing_in (S.files sources.old path.now) path.now) result }
+    ensures within { IfOk result (λ drawing. IsWithinLimits drawing.outline) }
+{
     match sources.read(alloc, path, FILE_LIMIT) {
         Ok(Found::Bytes(bytes)) => drawing_of(alloc, path, bytes.as_slice()),
         Ok(Found::Absent) => Err(refuse(alloc, Kind::MissingFile, path)),
@@ -74,9 +85,17 @@ fn read_drawing<'a, S: Sources>(
 
 /// Whether both drawings have as many contours, with as many points each.
 fn are_alike(first: &[Seq<Point>], second: &[Seq<Point>]) -> bool
-    ensures { result ≡ pointwise nat_eq (map length first.now) (map length second.now) }
+    ensures { IsTrue result ↔ (map length first.now ≡ map length second.now) }
 {
-    first.iter().map(Seq::len).eq(second.iter().map(Seq::len))
+    if first.len() != second.len() {
+        return false;
+    }
+    for (contour, other) in first.iter().zip(second) {
+        if contour.len() != other.len() {
+            return false;
+        }
+    }
+    true
 }
 
 /// Reads the two drawings of a command, the first one first.
@@ -84,7 +103,10 @@ pub(crate) fn read_drawings<'a, S: Sources>(
     alloc: Global,
     command: &Command<'a>,
     sources: &mut S,
-) -> Result<(Drawing, Drawing), ReadStop<'a>> {
+) -> Result<(Drawing, Drawing), ReadStop<'a>>
+    ensures reads { Reads S.tells S.files S.faults S.is_sure sources.old sources.new (λ named. (named ≡ command.now.first.now) ⊎ (named ≡ command.now.second.now)) (drawings_of (S.files sources.old) (asked command.now)) result }
+    ensures compatible { IfOk result (λ drawings. AreCompatible drawings.0 drawings.1) }
+{
     let first = match read_drawing(alloc, command.first, sources) {
         Ok(drawing) => drawing,
         Err(stop) => return Err(stop),

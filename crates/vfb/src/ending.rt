@@ -1,3 +1,7 @@
+ghost use Rattle.std.specs.Prelude.{◌≡◌};
+ghost use Rattle.outside.specs.Said.{Says};
+ghost use Rattle.vfb.specs.Ending.{ending_of, status_of, ending_line};
+
 use crate::drawings::ReadStop;
 use crate::lines::{say_no_memory, say_read_fault, say_refused, say_usage, say_write_fault};
 use crate::status::Status;
@@ -22,7 +26,9 @@ pub(crate) enum Ending<'a> {
 
 impl<'a> Ending<'a> {
     /// How a command ends whose drawings could not be had.
-    pub(crate) fn from_stop(stop: ReadStop<'a>) -> Ending<'a> {
+    pub(crate) fn from_stop(stop: ReadStop<'a>) -> Ending<'a>
+        ensures { result ≡ ending_of stop.entry }
+    {
         match stop {
             ReadStop::Refused(fault) => Ending::Refused(fault),
             ReadStop::ReadFault(path) => Ending::ReadFault(path),
@@ -31,7 +37,9 @@ impl<'a> Ending<'a> {
     }
 
     /// The status of the run.
-    pub(crate) fn into_status(self) -> Status {
+    pub(crate) fn into_status(self) -> Status
+        ensures { result ≡ status_of self.entry }
+    {
         match self {
             Ending::Done => Status::Ok,
             Ending::Refused(fault) => Status::Refused(fault),
@@ -44,7 +52,9 @@ impl<'a> Ending<'a> {
 }
 
 /// Says how a command ended, where the work isn't done.
-pub(crate) fn say_ending<T: Say>(say: &mut T, ending: &Ending<'_>) -> Result<(), Failed> {
+pub(crate) fn say_ending<T: Say>(say: &mut T, ending: &Ending<'_>) -> Result<(), Failed>
+    ensures { Says T.tells T.said T.faults T.is_sure T.room say.old say.new (ending_line ending.now) result }
+{
     match ending {
         Ending::Done => Ok(()),
         Ending::Refused(fault) => say_refused(say, fault),
