@@ -1,5 +1,5 @@
--- The limits that every drawing keeps that is built.
-use Rattle.std.specs.Prelude.{ℕ, ◌≤◌, ℤ, pos, negsuc, ◌≤ℤ◌, List, length, All, sum_by}
+-- The limits of an outline that can be built: of its numbers, and of how many points it has.
+use Rattle.std.specs.Prelude.{◌≤◌, pos, negsuc, ◌≤ℤ◌, List, length, All, sum_by}
 use Rattle.glif.specs.declared.shape.Point.{Point}
 use Rattle.glif.specs.declared.shape.Outline.{Outline}
 

@@ -1,10 +1,11 @@
--- A plain drawing: a file of fixed lines, with a name, a width and the points of contours in their places.
-use Rattle.std.specs.Prelude.{◌≡◌, ℕ, ◌≤◌, ℤ, pos, neg_ℤ, Bool, true, IsTrue, List, [], ◌∷◌, ◌++◌, length, map, All, codes, flat_map, if◌then◌else◌}
-use Rattle.std.specs.List.{list_all}
+-- Plain drawings: files of fixed lines, with a name, an advance width and the points of contours in their
+-- places. Each is the text of something written, which has a meaning and keeps conditions. The text isn't
+-- a function of the meaning, since 7 is written 7 and 007.
+use Rattle.std.specs.Prelude.{◌≡◌, ℕ, ◌≤◌, ℤ, pos, neg_ℤ, Bool, true, List, [], ◌++◌, length, map, All, codes, flat_map, if◌then◌else◌}
+use Rattle.std.specs.List.{AllPass}
 use Rattle.std.specs.Char.{is_ascii_alphabetic, is_ascii_digit}
 use Rattle.std.specs.Str.Parse.{digits_value}
 use Rattle.glif.specs.declared.shape.Point.{Point}
-use Rattle.glif.specs.declared.shape.Outline.{Outline}
 use Rattle.glif.specs.declared.shape.Drawing.{Drawing}
 use Rattle.glif.specs.Limits.{IsWithinLimits}
 
@@ -26,7 +27,7 @@ pub record Written : Type 0 where
 -- ---- the text
 
 abbrev pub number_text : Number → List ℕ
-number_text n = if n.negative then 45 ∷ n.digits else n.digits
+number_text n = if n.negative then codes "-" ++ n.digits else n.digits
 
 abbrev pub point_text : Place → List ℕ
 point_text p = codes "<point x=\"" ++ (number_text p.0 ++ (codes "\" y=\"" ++ (number_text p.1 ++ codes "\" type=\"line\"/>\n")))
@@ -57,23 +58,24 @@ meaning w = record {
 
 -- ---- the conditions
 
+-- at least one byte and at most so many, all of one class
+pub record IsRun (class : ℕ → Bool) (most : ℕ) (bytes : List ℕ) : Type 0 where
+  pub least : 1 ≤ length bytes
+  pub greatest : length bytes ≤ most
+  pub each : AllPass class bytes
+
 -- one to five decimal digits
-pub record IsNumber (n : Number) : Type 0 where
-  pub least : 1 ≤ length n.digits
-  pub greatest : length n.digits ≤ 5
-  pub decimal : IsTrue (list_all is_ascii_digit n.digits)
+abbrev pub IsNumber : Number → Type 0
+IsNumber n = IsRun is_ascii_digit 5 n.digits
 
--- 1 to 63 ASCII letters
-pub record IsGlyphName (name : List ℕ) : Type 0 where
-  pub least : 1 ≤ length name
-  pub greatest : length name ≤ 63
-  pub letters : IsTrue (list_all is_ascii_alphabetic name)
+abbrev pub IsPlace : Place → Type 0
+IsPlace p = IsNumber p.0 × IsNumber p.1
 
--- a proper name and proper numbers, and a drawing within limits
+-- a name of 1 to 63 ASCII letters, proper numbers, and a drawing within limits
 pub record IsWritten (w : Written) : Type 0 where
-  pub named : IsGlyphName w.name
+  pub named : IsRun is_ascii_alphabetic 63 w.name
   pub wide : IsNumber w.width
-  pub placed : All (All (λ p. IsNumber p.0 × IsNumber p.1)) w.contours
+  pub placed : All (All IsPlace) w.contours
   pub limits : IsWithinLimits (meaning w).outline
 
 -- the text is that of a plain drawing, and this is the drawing

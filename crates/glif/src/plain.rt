@@ -1,8 +1,11 @@
-ghost use Rattle.std.specs.Prelude.{◌≡◌, ℕ, ◌↔◌, ◌&&◌, ℤ, pos, negsuc, int_le, List, length, codes, sum_by, Option, Some, IfOk, nat_le};
+ghost use Rattle.std.specs.Prelude.{◌≡◌, ℕ, ◌≤◌, ◌<◌, ◌==◌, ◌↔◌, pos, ◌≤ℤ◌, List, length, position, sum_by, Some, IfSome, IfOk, nat_le};
+ghost use Rattle.std.specs.List.{AllPass, list_all};
+ghost use Rattle.std.specs.Char.{is_ascii_alphabetic, is_ascii_digit};
+ghost use Rattle.std.specs.Str.Parse.{digits_value};
 ghost use Rattle.glif.specs.declared.shape.Drawing.{Drawing};
 ghost use Rattle.glif.specs.Limits.{IsWithinLimits};
 ghost use Rattle.glif.specs.Plain.{IsPlain};
-ghost use Rattle.glif.specs.Reading.{Finds, Reads, after, quoted, size_of, number_of, number_at, point_at, many, contour_at, name_at, header_at, plain_drawing};
+ghost use Rattle.glif.specs.Reading.{Agrees, Reads, after, quoted, glyph_name, size_of, number_of, number_at, point_at, many, contour_at, name_at, header_at, plain_drawing};
 
 use crate::shape::{Drawing, Outline, Point};
 use outside::{Kind, Name, NoMemory, Seq, Spot, Stop};
@@ -20,45 +23,74 @@ const CONTOUR_POINTS: usize = 1_024;
 /// The most points of a glyph, and so the most contours.
 const GLYPH_POINTS: usize = 4_000;
 
+/// The most letters of a name.
+const LETTERS: usize = 63;
+
+/// The most digits of a number.
+const DIGITS: usize = 5;
+
 /// The bytes after a fixed text, where they begin with it.
 #[tactic(auto, unfolding(crate::specs::Reading::after))]
 fn after<'a>(text: &[u8], bytes: &'a [u8]) -> Option<&'a [u8]>
-    ensures { Finds (λ rest. rest.now) result (after text.now bytes.now) }
+    ensures { Agrees (λ rest. rest.now) result (after text.now bytes.now) }
 {
     bytes.strip_prefix(text)
 }
 
 /// The place of the first quotation mark.
-fn quotation_mark(bytes: &[u8]) -> Option<usize> {
+fn quotation_mark(bytes: &[u8]) -> Option<usize>
+    ensures place { result ≡ position (λ byte. byte == 34) bytes.now }
+    ensures within { IfSome result (λ end. end < length bytes.now) }
+{
     bytes.iter().position(|byte| *byte == b'"')
 }
 
 /// The bytes up to the first quotation mark, and those after it.
 #[tactic(auto, unfolding(crate::specs::Reading::quoted))]
 fn quoted(bytes: &[u8]) -> Option<(&[u8], &[u8])>
-    ensures { Finds (λ found. (found.0.now, found.1.now)) result (quoted bytes.now) }
+    ensures { Agrees (λ found. (found.0.now, found.1.now)) result (quoted bytes.now) }
 {
     let end = quotation_mark(bytes)?;
     Some((&bytes[..end], &bytes[end + 1..]))
 }
 
+/// Whether each byte is a decimal digit.
+fn are_digits(text: &[u8]) -> bool
+    ensures { result ≡ list_all is_ascii_digit text.now }
+{
+    text.iter().all(|byte| byte.is_ascii_digit())
+}
+
+/// The number that at most five decimal digits write.
+fn value_of(digits: &[u8]) -> u32
+    requires few { length digits.now ≤ 5 }
+    requires decimal { AllPass is_ascii_digit digits.now }
+    ensures value { result ≡ digits_value 10 digits.now }
+    ensures small { result ≤ 99999 }
+{
+    let mut value = 0;
+    for digit in digits {
+        value = value * 10 + u32::from(digit - b'0');
+    }
+    value
+}
+
 /// One to five digits, as a number.
-#[tactic(auto, unfolding(crate::specs::Reading::size_of))]
-fn size_of(digits: &[u8]) -> Option<i32> {
-    if digits.is_empty() || digits.len() > 5 || !digits.iter().all(|digit| digit.is_ascii_digit()) {
+#[tactic(auto, unfolding(crate::specs::Reading::size_of, crate::specs::Reading::is_run))]
+fn size_of(text: &[u8]) -> Option<i32>
+    ensures value { Agrees (λ size. size) result (size_of text.now) }
+    ensures small { IfSome result (λ size. (pos 0 ≤ℤ size) × (size ≤ℤ pos 99999)) }
+{
+    if text.is_empty() || text.len() > DIGITS || !are_digits(text) {
         return None;
     }
-    let mut size = 0;
-    for digit in digits {
-        size = size * 10 + i32::from(digit - b'0');
-    }
-    Some(size)
+    Some(value_of(text) as i32)
 }
 
 /// Digits behind an optional minus sign.
 #[tactic(auto, unfolding(crate::specs::Reading::number_of))]
 fn number_of(text: &[u8]) -> Option<i32>
-    ensures { Finds (λ number. number) result (number_of text.now) }
+    ensures { Agrees (λ number. number) result (number_of text.now) }
 {
     match text {
         [] => None,
@@ -70,7 +102,7 @@ fn number_of(text: &[u8]) -> Option<i32>
 /// A number from `least` to `GREATEST`, up to the quotation mark, and the bytes after that.
 #[tactic(auto, unfolding(crate::specs::Reading::number_at))]
 fn number_at(least: i32, bytes: &[u8]) -> Option<(i32, &[u8])>
-    ensures { Finds (λ found. (found.0, found.1.now)) result (number_at least bytes.now) }
+    ensures { Agrees (λ found. (found.0, found.1.now)) result (number_at least bytes.now) }
 {
     let (text, rest) = quoted(bytes)?;
     let number = number_of(text)?;
@@ -84,7 +116,7 @@ fn number_at(least: i32, bytes: &[u8]) -> Option<(i32, &[u8])>
 /// The point that a `point` line writes, and the bytes after the line.
 #[tactic(auto, unfolding(crate::specs::Reading::point_at))]
 fn point_at(bytes: &[u8]) -> Option<(Point, &[u8])>
-    ensures { Finds (λ found. (found.0, found.1.now)) result (point_at bytes.now) }
+    ensures { Agrees (λ found. (found.0, found.1.now)) result (point_at bytes.now) }
 {
     let rest = after(b"<point x=\"", bytes)?;
     let (x, rest) = number_at(LEAST, rest)?;
@@ -113,7 +145,7 @@ fn points_at(alloc: Global, bytes: &[u8]) -> Result<(Vec<Point>, &[u8]), NoMemor
 /// The points from the line `<contour>` to its end, one at least, and the bytes after them.
 #[tactic(auto, unfolding(crate::specs::Reading::contour_at))]
 fn contour_at(alloc: Global, bytes: &[u8]) -> Result<Option<(Vec<Point>, &[u8])>, NoMemory>
-    ensures { IfOk result (λ found. Finds (λ found. (found.0.items, found.1.now)) found (contour_at bytes.now)) }
+    ensures { IfOk result (λ found. Agrees (λ found. (found.0.items, found.1.now)) found (contour_at bytes.now)) }
 {
     let Some(rest) = after(b"<contour>\n", bytes) else {
         return Ok(None);
@@ -158,32 +190,45 @@ fn are_few(contours: &[Seq<Point>]) -> bool
     true
 }
 
+/// Whether each byte is an ASCII letter.
+fn are_letters(text: &[u8]) -> bool
+    ensures { result ≡ list_all is_ascii_alphabetic text.now }
+{
+    text.iter().all(|byte| byte.is_ascii_alphabetic())
+}
+
+/// The text as a glyph's name, if it is 1 to 63 ASCII letters.
+#[tactic(auto, using(crate::proofs::Text::IsUtf8_from_letters), unfolding(crate::specs::Reading::glyph_name, crate::specs::Reading::is_run))]
+fn glyph_name(text: &[u8]) -> Option<&str>
+    ensures { Agrees (λ name. name.now) result (glyph_name text.now) }
+{
+    if text.is_empty() || text.len() > LETTERS || !are_letters(text) {
+        return None;
+    }
+    str::from_utf8(text).ok()
+}
+
 /// The name before the first quotation mark, and the bytes after that.
 #[tactic(auto, unfolding(crate::specs::Reading::name_at))]
 fn name_at(bytes: &[u8]) -> Option<(&str, &[u8])>
-    ensures { Finds (λ found. (found.0.now, found.1.now)) result (name_at bytes.now) }
+    ensures { Agrees (λ found. (found.0.now, found.1.now)) result (name_at bytes.now) }
 {
     let (name, rest) = quoted(bytes)?;
-    if name.is_empty() || name.len() > 63 || !name.iter().all(|byte| byte.is_ascii_alphabetic()) {
-        return None;
-    }
-    match str::from_utf8(name) {
-        Ok(name) => Some((name, rest)),
-        Err(_) => None,
-    }
+    let name = glyph_name(name)?;
+    Some((name, rest))
 }
 
 /// The name and the advance width, and the bytes from the first contour on.
 #[tactic(auto, unfolding(crate::specs::Reading::header_at))]
-fn header_at(bytes: &[u8]) -> Option<((&str, i32), &[u8])>
-    ensures { Finds (λ found. ((found.0.0.now, found.0.1), found.1.now)) result (header_at bytes.now) }
+fn header_at(bytes: &[u8]) -> Option<(&str, i32, &[u8])>
+    ensures { Agrees (λ found. (found.0.now, found.1, found.2.now)) result (header_at bytes.now) }
 {
     let rest = after(b"<glyph name=\"", bytes)?;
     let (name, rest) = name_at(rest)?;
     let rest = after(b" format=\"2\">\n<advance width=\"", rest)?;
     let (width, rest) = number_at(0, rest)?;
     let rest = after(b"/>\n<outline>\n", rest)?;
-    Some(((name, width), rest))
+    Some((name, width, rest))
 }
 
 /// The drawing of a whole file, or None where it isn't a plain drawing.
@@ -191,7 +236,7 @@ fn header_at(bytes: &[u8]) -> Option<((&str, i32), &[u8])>
 fn drawing_of(alloc: Global, text: &[u8]) -> Result<Option<Drawing>, NoMemory>
     ensures { IfOk result (λ found. plain_drawing text.now ≡ found) }
 {
-    let Some(((name, advance), rest)) = header_at(text) else {
+    let Some((name, advance, rest)) = header_at(text) else {
         return Ok(None);
     };
     let (contours, rest) = contours_at(alloc, rest)?;

@@ -1,7 +1,6 @@
 -- The data of a glyph with one tuple variation on one axis that gives every point its own delta
 -- (OpenType, "gvar" and "Tuple variation store").
 use Rattle.std.specs.Prelude.{◌≡◌, ℕ, ℤ, pos, negsuc, ◌+◌, ◌^◌, ◌<◌, ◌≤ℤ◌, List, [], ◌∷◌, ◌++◌, length, map}
-use Rattle.fixpoint.specs.declared.plane.Pair.{Pair}
 use Rattle.variation_rules.specs.Fields.{word, signed_word}
 use Rattle.variation_rules.specs.PackedPoints.{count_from}
 use Rattle.variation_rules.specs.PackedDeltas.{PacksDeltas}

@@ -5,5 +5,7 @@
 
 mod one_tuple;
 mod packed_deltas;
+#[cfg(test)]
+mod tests;
 
 pub use one_tuple::{all_points, one_spelling};

@@ -1,11 +1,12 @@
-ghost use Rattle.std.specs.Prelude.{◌≡◌, ℕ, ℤ, ◌+◌, ◌^◌, ◌<◌, ◌≤◌, List, [], ◌∷◌, length, All, IfOk};
+ghost use Rattle.std.specs.Prelude.{◌≡◌, ℕ, ℤ, ◌+◌, ◌*◌, ◌^◌, ◌<◌, ◌≤◌, List, [], ◌∷◌, length, map, All, IfOk};
+ghost use Rattle.variation_rules.specs.PackedDeltas.{PacksDeltas};
 ghost use Rattle.variation_rules.specs.TupleVariations.{MeansTuples, PacksTuples};
 ghost use Rattle.gvar_table.specs.OneTuple.{IsDelta, IsOneTuple, all_points_tuple, one_tuple};
 ghost use Rattle.gvar_table.specs.Laws.{OneSpelling};
 
 use crate::packed_deltas::pack_deltas;
 use outside::{NoMemory, Seq};
-use std::alloc::Global;
+use std::alloc::{AllocError, Global};
 
 /// The number of tuples.
 const TUPLES: u16 = 1;
@@ -30,19 +31,44 @@ pub fn all_points(alloc: Global, peak: i16, deltas: &Seq<(i32, i32)>) -> Result<
     ensures means { IfOk result (λ bytes. MeansTuples 1 (length deltas.now) [] bytes.items (all_points_tuple peak deltas.now ∷ [])) }
     ensures packs { IfOk result (λ bytes. PacksTuples 1 (length deltas.now) [] bytes.items (all_points_tuple peak deltas.now ∷ [])) }
 {
-    let xs: Vec<i32> = deltas
-        .as_slice()
-        .iter()
-        .map(|delta| delta.0)
-        .collect(alloc)?;
-    let ys: Vec<i32> = deltas
-        .as_slice()
-        .iter()
-        .map(|delta| delta.1)
-        .collect(alloc)?;
-    let x_bytes = pack_deltas(alloc, &xs)?;
-    let y_bytes = pack_deltas(alloc, &ys)?;
+    let deltas = deltas.as_slice();
+    let x_bytes = pack_xs(alloc, deltas)?;
+    let y_bytes = pack_ys(alloc, deltas)?;
     with_header(alloc, peak, &x_bytes, &y_bytes)
+}
+
+/// The x numbers of the deltas, packed.
+fn pack_xs(alloc: Global, deltas: &[(i32, i32)]) -> Result<Vec<u8>, NoMemory>
+    requires { All IsDelta deltas.now }
+    ensures packed { IfOk result (λ bytes. PacksDeltas bytes.items (map (λ (delta : ℤ × ℤ). delta.0) deltas.now)) }
+    ensures short { IfOk result (λ bytes. length bytes.items ≤ 3 * length deltas.now) }
+{
+    let xs = xs_of(alloc, deltas)?;
+    pack_deltas(alloc, &xs)
+}
+
+/// The y numbers of the deltas, packed.
+fn pack_ys(alloc: Global, deltas: &[(i32, i32)]) -> Result<Vec<u8>, NoMemory>
+    requires { All IsDelta deltas.now }
+    ensures packed { IfOk result (λ bytes. PacksDeltas bytes.items (map (λ (delta : ℤ × ℤ). delta.1) deltas.now)) }
+    ensures short { IfOk result (λ bytes. length bytes.items ≤ 3 * length deltas.now) }
+{
+    let ys = ys_of(alloc, deltas)?;
+    pack_deltas(alloc, &ys)
+}
+
+/// The x numbers of the deltas.
+fn xs_of(alloc: Global, deltas: &[(i32, i32)]) -> Result<Vec<i32>, AllocError>
+    ensures { IfOk result (λ xs. xs.items ≡ map (λ (delta : ℤ × ℤ). delta.0) deltas.now) }
+{
+    deltas.iter().map(|delta| delta.0).collect(alloc)
+}
+
+/// The y numbers of the deltas.
+fn ys_of(alloc: Global, deltas: &[(i32, i32)]) -> Result<Vec<i32>, AllocError>
+    ensures { IfOk result (λ ys. ys.items ≡ map (λ (delta : ℤ × ℤ). delta.1) deltas.now) }
+{
+    deltas.iter().map(|delta| delta.1).collect(alloc)
 }
 
 /// The data of one tuple with these packed x and y deltas.

@@ -1,9 +1,9 @@
 -- What the drawing comes to where a tuple names every point, and where there is one tuple.
-use Rattle.std.proofs.Common.{◌≡◌, ℕ, ℤ, zero, suc, pos, ◌+◌, ◌%◌, ◌<◌, ◌≤◌, ◌+ℤ◌, ◌*ℤ◌, List, [], ◌∷◌, length, take, drop, get_or, Option, Some, None, sum, refl, sym, ◌∙◌, ap, arith}
+use Rattle.std.proofs.Common.{◌≡◌, ℕ, ℤ, zero, suc, pos, ◌+◌, ◌%◌, ◌<◌, ◌≤◌, min, ◌+ℤ◌, ◌*ℤ◌, List, [], ◌∷◌, length, take, drop, get_or, Option, Some, None, sum, refl, sym, ◌∙◌, ap, arith}
 use Rattle.std.proofs.lemmas.Bool.{eq-eqb, ne_eqb}
-use Rattle.std.proofs.lemmas.List.{get_or-take, get_or-drop, length-take, length-drop, nil_from_length, take_all}
+use Rattle.std.proofs.lemmas.List.{get_or-take, get_or-drop, length-take, length-drop, nil_from_length, take_all, drop_more}
 use Rattle.std.proofs.lemmas.List.Sums.{sum_by-cons}
-use Rattle.std.proofs.Math.IntN.{+ℤ_idr}
+use Rattle.std.proofs.Math.IntN.{+ℤ_idr, +ℤ_assoc}
 use Rattle.std.proofs.Math.Nat.{mod-eq_of_lt}
 use Rattle.std.specs.Option.{unwrap_or}
 use Rattle.fixpoint.specs.declared.plane.Pair.{Pair}
@@ -20,6 +20,22 @@ named_first point points delta deltas i same = rw (eq-eqb point i same)
 -- and any other is looked for among the rest
 pub named_later : (point : ℕ) (points : List ℕ) (delta : Pair) (deltas : List Pair) (i : ℕ) → (point ≡ i → ⊥) → named_delta (point ∷ points) (delta ∷ deltas) i ≡ named_delta points deltas i
 named_later point points delta deltas i other = rw (ne_eqb point i other)
+
+-- what the lists name from a place on
+pub named_here : (points : List ℕ) (deltas : List Pair) (k i : ℕ) → k < length points → k < length deltas → get_or points k 0 ≡ i → named_delta (drop k points) (drop k deltas) i ≡ Some (get_or deltas k still)
+named_here points deltas k i inside also same =
+    rw (drop_more points k 0 inside, drop_more deltas k still also)
+    (named_first (get_or points k 0) (drop (k + 1) points) (get_or deltas k still) (drop (k + 1) deltas) i same)
+
+pub named_further : (points : List ℕ) (deltas : List Pair) (k i : ℕ) → k < length points → k < length deltas → (get_or points k 0 ≡ i → ⊥) → named_delta (drop k points) (drop k deltas) i ≡ named_delta (drop (k + 1) points) (drop (k + 1) deltas) i
+named_further points deltas k i inside also other =
+    rw (drop_more points k 0 inside, drop_more deltas k still also)
+    (named_later (get_or points k 0) (drop (k + 1) points) (get_or deltas k still) (drop (k + 1) deltas) i other)
+
+pub named_end : (points : List ℕ) (deltas : List Pair) (i : ℕ) → min (length points) (length deltas) ≤ 0 → named_delta points deltas i ≡ None
+named_end [] deltas i ended = refl
+named_end (p ∷ points) [] i ended = refl
+named_end (p ∷ points) (delta ∷ deltas) i ended = absurd (omega arith)
 
 -- a list that names so many points, from one on, has the delta of each at its place
 named_from : (n first i : ℕ) (deltas : List Pair) → n ≤ length deltas → i < n → named_delta (count_from n first) deltas (first + i) ≡ Some (get_or deltas i still)
@@ -110,3 +126,18 @@ drawn_advance_all_named advance outline_points at tuple all one_each =
     rw all (all_named (outline_points + 4) (outline_points + 1) tuple.deltas one_each (omega arith)) in
     drawn_advance_of_one advance outline_points at tuple
     ∙ ap (λ delta. (pos 65536 *ℤ advance) +ℤ (scalar_of 16 tuple.region at *ℤ (unwrap_or delta still).x)) named
+
+-- what one tuple more adds to a point's movement, where the tuples left complete it
+pub movement_step : (part : Pair → ℤ) (at : List ℤ) (tuples : List TupleVariation) (fills : List (List Pair)) (k point : ℕ) (tuple : TupleVariation) (fill : List Pair) (so_far moved whole : ℤ) → k < length tuples → k < length fills → tuple ≡ get_or tuples k tuple → fill ≡ get_or fills k fill → moved ≡ scalar_of 16 tuple.region at *ℤ part (get_or fill point still) → so_far +ℤ movement part at (drop k tuples) (drop k fills) point ≡ whole → (so_far +ℤ moved) +ℤ movement part at (drop (k + 1) tuples) (drop (k + 1) fills) point ≡ whole
+movement_step part at tuples fills k point tuple fill so_far moved whole inside also tuple_is fill_is moved_is rest =
+    let next : drop k tuples ≡ tuple ∷ drop (k + 1) tuples = rw (drop_more tuples k tuple inside, ← tuple_is) in
+    let next_fill : drop k fills ≡ fill ∷ drop (k + 1) fills = rw (drop_more fills k fill also, ← fill_is) in
+    let later = movement part at (drop (k + 1) tuples) (drop (k + 1) fills) point in
+    +ℤ_assoc so_far moved later ∙ (ap (λ z. so_far +ℤ (z +ℤ later)) moved_is ∙ rw (next, next_fill) at rest)
+
+-- the same of a phantom point
+pub phantom_step : (at : List ℤ) (tuples : List TupleVariation) (k point : ℕ) (tuple : TupleVariation) (so_far moved whole : ℤ) → k < length tuples → tuple ≡ get_or tuples k tuple → moved ≡ scalar_of 16 tuple.region at *ℤ (unwrap_or (named_delta tuple.points tuple.deltas point) still).x → so_far +ℤ phantom_movement at (drop k tuples) point ≡ whole → (so_far +ℤ moved) +ℤ phantom_movement at (drop (k + 1) tuples) point ≡ whole
+phantom_step at tuples k point tuple so_far moved whole inside tuple_is moved_is rest =
+    let next : drop k tuples ≡ tuple ∷ drop (k + 1) tuples = rw (drop_more tuples k tuple inside, ← tuple_is) in
+    let later = phantom_movement at (drop (k + 1) tuples) point in
+    +ℤ_assoc so_far moved later ∙ (ap (λ z. so_far +ℤ (z +ℤ later)) moved_is ∙ rw next at rest)
