@@ -1,3 +1,4 @@
+pub mod DecodingBits
 pub mod DecodingSteps
 pub mod DecodingLoops
 pub mod DecodingRising
