@@ -1,5 +1,6 @@
 -- Reading packed point numbers, for a glyph of so many points.
-use Rattle.std.specs.Prelude.{ℕ, ◌+◌, ◌-◌, ◌*◌, List, [], ◌∷◌, Option, Some, None, if◌then◌else◌, nat_lt, nat_le, nat_eq, ◌||◌}
+use Rattle.std.specs.Prelude.{ℕ, ◌+◌, ◌-◌, List, [], ◌∷◌, Option, Some, None, if◌then◌else◌, nat_lt, nat_le, nat_eq, ◌||◌}
+use Rattle.std.specs.Int.{w16, from_be_bytes}
 use Rattle.variation_rules.specs.Decoding.{◌>>=◌, many, filled, byte_at, word_at}
 use Rattle.variation_rules.specs.PackedPoints.{count_from}
 use Rattle.variation_rules.specs.declared.runs.PointClass.{PointClass}
@@ -28,7 +29,7 @@ unfoldable pub count_at : List ℕ → Option (ℕ × List ℕ)
 count_at bytes = do
   first ← byte_at bytes
   if nat_lt first.0 128 then Some first
-      else (byte_at first.1 >>= λ second. Some (256 * (first.0 - 128) + second.0, second.1))
+      else (byte_at first.1 >>= λ second. Some (from_be_bytes w16 ((first.0 - 128) ∷ second.0 ∷ []), second.1))
 
 -- the numbers that the differences lead to from this one, if they rise, from the low one on and below the end
 unfoldable pub rising : ℕ → ℕ → ℕ → List ℕ → Option (List ℕ)
