@@ -9,6 +9,8 @@
 
 mod drawing;
 mod fields;
+#[cfg(test)]
+mod drawing_tests;
 mod filling;
 mod header;
 mod inferred;
