@@ -8,9 +8,9 @@
 #![tactic(auto)]
 
 mod drawing;
-mod fields;
 #[cfg(test)]
 mod drawing_tests;
+mod fields;
 mod filling;
 mod header;
 mod inferred;
