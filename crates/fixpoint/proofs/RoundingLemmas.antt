@@ -13,6 +13,7 @@ times_pos : (z : ℤ) (k : ℕ) → (up (z *ℤ pos k) ≡ up z * k) × (down (z
 times_pos (pos a) k = omega (arith, ints)
 times_pos (negsuc a) k = omega (arith, ints)
 
+-- a number twice, in parts
 twice : (z : ℤ) → (up (pos 2 *ℤ z) ≡ 2 * up z) × (down (pos 2 *ℤ z) ≡ 2 * down z)
 twice (pos a) = omega (arith, ints)
 twice (negsuc a) = omega (arith, ints)
@@ -79,7 +80,7 @@ round_up_at_least n d least some low =
     factor_le (down (round_up n d)) (least + up (round_up n d)) d (omega (arith, ints, near)) in
     omega (arith, ints)
 
--- what follows of one product at most another, nearest to the first over b
+-- a part of a number that is not negative is at most the whole
 scaled_at_most : (s a b : ℕ) → 0 < b → a ≤ b → round_up (pos s *ℤ pos a) b ≤ℤ pos s
 scaled_at_most s a b some fraction =
     let near = nearest_parts (pos s *ℤ pos a) b (round_up (pos s *ℤ pos a) b) (round_up_bounds (pos s *ℤ pos a) b some) in
@@ -88,7 +89,7 @@ scaled_at_most s a b some fraction =
     factor_le (up (round_up (pos s *ℤ pos a) b)) (s + down (round_up (pos s *ℤ pos a) b)) b (omega (arith, ints, near)) in
     omega (arith, ints)
 
--- a part of s: the fraction a / b, at most 1, of a number that is not negative
+-- the same of signed numbers: the part a / b of s lies between nothing and the whole
 pub scaled_within : (s a : ℤ) (b : ℕ) → 0 < b → pos 0 ≤ℤ s → pos 0 ≤ℤ a → a ≤ℤ pos b → (pos 0 ≤ℤ round_up (s *ℤ a) b) × (round_up (s *ℤ a) b ≤ℤ s)
 scaled_within (pos s) (pos a) b some whole part fraction =
     (round_up_at_least (pos s *ℤ pos a) b 0 some (omega (arith, ints)), scaled_at_most s a b some (omega (arith, ints)))
@@ -116,6 +117,7 @@ size_below : (z : ℤ) (bound : ℕ) → neg_ℤ (pos bound) ≤ℤ z → z ≤�
 size_below (pos z) bound low high = omega (arith, ints)
 size_below (negsuc z) bound low high = omega (arith, ints)
 
+-- a number and its negation are of one size
 size_of_neg : (z : ℤ) → unsigned_abs (neg_ℤ z) ≡ unsigned_abs z
 size_of_neg (pos zero) = refl
 size_of_neg (pos (suc n)) = refl

@@ -83,3 +83,42 @@ fn nearest_down(n: i128, d: i128) -> i128
 {
     -nearest_up(-n, d)
 }
+
+#[cfg(test)]
+mod tests {
+    use super::*;
+
+    // Each row: a number, then its quarter rounded up and down. Ties lie at odd halves.
+    #[test]
+    fn rounds_quarters(rt: HostRuntime) {
+        let rows = [
+            (-6, -1, -2),
+            (-5, -1, -1),
+            (-3, -1, -1),
+            (-2, 0, -1),
+            (-1, 0, 0),
+            (0, 0, 0),
+            (1, 0, 0),
+            (2, 1, 0),
+            (3, 1, 1),
+            (5, 1, 1),
+            (6, 2, 1),
+            (7, 2, 2),
+            (i64::MAX - 1, 2305843009213693952, 2305843009213693951),
+            (i64::MIN, -2305843009213693952, -2305843009213693952),
+            (i64::MIN + 2, -2305843009213693951, -2305843009213693952),
+        ];
+        for (n, up, down) in rows {
+            assert_eq!(rt; divide_up(n, 4), up, "{n} up");
+            assert_eq!(rt; divide_down(n, 4), down, "{n} down");
+        }
+
+        // Products past 64 bits, and the greatest that is taken.
+        assert_eq!(rt; scale(i64::MAX, i64::MAX - 1, i64::MAX), i64::MAX - 1);
+        assert_eq!(rt; scale(3, 1, 2), 2);
+        assert_eq!(rt; mul_div_up(i64::MIN, i64::MAX, i64::MAX), i64::MIN);
+        assert_eq!(rt; mul_div_up(i64::MIN, -3, 1 << 62), 6);
+        assert_eq!(rt; mul_div_up(-3, 5, 2), -7);
+        assert_eq!(rt; mul_div_down(-3, 5, 2), -8);
+    }
+}
