@@ -28,9 +28,9 @@ module _ {reading : Result (Drawing × Drawing) Fault} (drawings : Drawing × Dr
   Writes-whole out bytes old new of whole =
       subst (λ reading. Writes reading out old new status.WriteFault) (sym is) (bytes, of, inr (bytes, ([], append-nil bytes), whole))
 
-  pub SaysItself-dash : (command : Tuples) {risen : Type 0} (old new : List ℕ) (path : Bor (List ℕ)) → path.now ≡ codes "-" → SaysFront risen (summary drawings.0 drawings.1) old new → SaysItself command reading risen old new (WriteFault path)
-  SaysItself-dash command {risen} old new path dash says =
-      subst (λ reading. SaysItself command reading risen old new (WriteFault path)) (sym is) (inr (dash, says))
+  pub SaysItself-dash : (command : Tuples) (files : Files) {risen : Type 0} (old new : List ℕ) (path : Bor (List ℕ)) → path.now ≡ codes "-" → SaysFront risen (summary drawings.0 drawings.1) old new → SaysItself command files reading risen old new (WriteFault path)
+  SaysItself-dash command files {risen} old new path dash says =
+      subst (λ reading. SaysItself command files reading risen old new (WriteFault path)) (sym is) (inr (dash, says))
 
   pub FailsItself-dash : (command : Tuples) {risen : Type 0} (bytes : List ℕ) (old new : Files) (said_old said_new : List ℕ) (path : Bor (List ℕ))
       → path.now ≡ codes "-" → IsData drawings.0 drawings.1 bytes → new ≡ put old command.out bytes → SaysFront risen (summary drawings.0 drawings.1) said_old said_new

@@ -53,30 +53,30 @@ BreaksOff-from text old mid new first second says adds =
 -- ---- the whole
 
 module _ {inner later risen : Type 0} (first : inner → risen) (second : later → risen) where
-  SaysOf-from : (command : Tuples) (reading : Result (Drawing × Drawing) Fault) (old mid new : List ℕ) (ending : Ending)
-      → IsAnswerTo reading (status_of ending) → SaysItself command reading inner old mid ending → AddsLine later (ending_line ending) mid new
-      → SaysOf command reading risen old new (status_of ending)
-  SaysOf-from command (Ok drawings) old mid new Done answer says adds = AddsLine-none mid new adds ∙ says
-  SaysOf-from command (Ok drawings) old mid new (Refused fault) answer says adds = absurd answer
-  SaysOf-from command (Ok drawings) old mid new Usage answer says adds = absurd answer
-  SaysOf-from command (Ok drawings) old mid new (ReadFault path) answer (inl at, same) adds =
+  SaysOf-from : (command : Tuples) (files : Files) (reading : Result (Drawing × Drawing) Fault) (old mid new : List ℕ) (ending : Ending)
+      → IsAnswerTo reading (status_of ending) → SaysItself command files reading inner old mid ending → AddsLine later (ending_line ending) mid new
+      → SaysOf command files reading risen old new (status_of ending)
+  SaysOf-from command files (Ok drawings) old mid new Done answer says adds = AddsLine-none mid new adds ∙ says
+  SaysOf-from command files (Ok drawings) old mid new (Refused fault) answer says adds = absurd answer
+  SaysOf-from command files (Ok drawings) old mid new Usage answer says adds = absurd answer
+  SaysOf-from command files (Ok drawings) old mid new (ReadFault path) answer (inl at, same) adds =
       inl (subst (λ path. AddsLine risen (read_fault_line path) old new) at (AddsLine-wider (read_fault_line path.now) old mid new second same adds))
-  SaysOf-from command (Ok drawings) old mid new (ReadFault path) answer (inr at, same) adds =
-      inr (subst (λ path. AddsLine risen (read_fault_line path) old new) at (AddsLine-wider (read_fault_line path.now) old mid new second same adds))
-  SaysOf-from command (Ok drawings) old mid new (WriteFault path) answer (inl at) adds =
+  SaysOf-from command files (Ok drawings) old mid new (ReadFault path) answer (inr (given, at), same) adds =
+      inr (given, subst (λ path. AddsLine risen (read_fault_line path) old new) at (AddsLine-wider (read_fault_line path.now) old mid new second same adds))
+  SaysOf-from command files (Ok drawings) old mid new (WriteFault path) answer (inl at) adds =
       inl (subst (λ path. AddsLine risen (write_fault_line path) old new) at.0 (AddsLine-wider (write_fault_line path.now) old mid new second at.1 adds))
-  SaysOf-from command (Ok drawings) old mid new (WriteFault path) answer (inr at) adds =
+  SaysOf-from command files (Ok drawings) old mid new (WriteFault path) answer (inr at) adds =
       inr (BreaksOff-from (summary drawings.0 drawings.1) old mid new first second at.1 (subst (λ path. AddsLine later (write_fault_line path) mid new) at.0 adds))
-  SaysOf-from command (Ok drawings) old mid new NoMemory answer says adds = AddsLine-wider _ old mid new second says adds
-  SaysOf-from command (Err fault) old mid new Done answer says adds = absurd answer
-  SaysOf-from command (Err fault) old mid new (Refused found) answer says adds = AddsLine-wider (refused_line found) old mid new second says adds
-  SaysOf-from command (Err fault) old mid new Usage answer says adds = absurd answer
-  SaysOf-from command (Err fault) old mid new (ReadFault path) answer (inl at, same) adds =
+  SaysOf-from command files (Ok drawings) old mid new NoMemory answer says adds = AddsLine-wider _ old mid new second says adds
+  SaysOf-from command files (Err fault) old mid new Done answer says adds = absurd answer
+  SaysOf-from command files (Err fault) old mid new (Refused found) answer says adds = AddsLine-wider (refused_line found) old mid new second says adds
+  SaysOf-from command files (Err fault) old mid new Usage answer says adds = absurd answer
+  SaysOf-from command files (Err fault) old mid new (ReadFault path) answer (inl at, same) adds =
       inl (subst (λ path. AddsLine risen (read_fault_line path) old new) at (AddsLine-wider (read_fault_line path.now) old mid new second same adds))
-  SaysOf-from command (Err fault) old mid new (ReadFault path) answer (inr at, same) adds =
-      inr (subst (λ path. AddsLine risen (read_fault_line path) old new) at (AddsLine-wider (read_fault_line path.now) old mid new second same adds))
-  SaysOf-from command (Err fault) old mid new (WriteFault path) answer says adds = absurd answer
-  SaysOf-from command (Err fault) old mid new NoMemory answer says adds = AddsLine-wider _ old mid new second says adds
+  SaysOf-from command files (Err fault) old mid new (ReadFault path) answer (inr (given, at), same) adds =
+      inr (given, subst (λ path. AddsLine risen (read_fault_line path) old new) at (AddsLine-wider (read_fault_line path.now) old mid new second same adds))
+  SaysOf-from command files (Err fault) old mid new (WriteFault path) answer says adds = absurd answer
+  SaysOf-from command files (Err fault) old mid new NoMemory answer says adds = AddsLine-wider _ old mid new second says adds
 
   pub IsSaid-from : (command : Option Tuples) (files : Files) (old mid new : List ℕ) (ending : Ending)
       → IsAnswer command files (status_of ending) → IsSaidItself command files inner old mid ending → AddsLine later (ending_line ending) mid new
@@ -87,7 +87,7 @@ module _ {inner later risen : Type 0} (first : inner → risen) (second : later 
   IsSaid-from None files old mid new (ReadFault _) answer says adds = absurd answer
   IsSaid-from None files old mid new (WriteFault _) answer says adds = absurd answer
   IsSaid-from None files old mid new NoMemory answer says adds = absurd answer
-  IsSaid-from (Some command) files old mid new ending answer says adds = SaysOf-from command (drawings_of files command) old mid new ending answer says adds
+  IsSaid-from (Some command) files old mid new ending answer says adds = SaysOf-from command files (drawings_of files command) old mid new ending answer says adds
 
   Fails-from : (command : Tuples) (reading : Result (Drawing × Drawing) Fault) (old new : Files) (said_old said_mid said_new : List ℕ) (path : Bor (List ℕ))
       → FailsItself command reading inner old new said_old said_mid (WriteFault path) → AddsLine later (write_fault_line path.now) said_mid said_new

@@ -50,7 +50,8 @@ abbrev pub between : ℤ → ℤ → ℤ → ℤ
 between at a b = (pos 65536 *ℤ a) +ℤ (scalar_of 16 (plain_triple (pos 16384) ∷ []) (at ∷ []) *ℤ (b -ℤ a))
 
 -- The bytes are glyph variation data on one axis. Drawn over the first drawing they give at each location, for each
--- coordinate and for the advance, the line to the second one. (It holds at every number, and so from -16384 to 16384.)
+-- coordinate and for the advance, the line to the second one. (It holds at every number, and so from -16384 to 16384.
+-- Bytes mean one list of tuples at most, and tuples fill an outline in one way: both are laws of the meaning.)
 pub record DrawsBetween (first second : Drawing) (bytes : List ℕ) : Type 0 where
   pub tuples : List TupleVariation
   pub fills : List (List Pair)

@@ -1,10 +1,10 @@
 -- How a run ends: its status, what the files hold afterwards, and what was said.
-use Rattle.std.specs.Prelude.{◌≡◌, ℕ, ◌+◌, ◌<◌, ◌⊎◌, List, [], ◌++◌, length, codes, Option, Some, None, Result, Ok, Err}
+use Rattle.std.specs.Prelude.{◌≡◌, ℕ, ◌+◌, ◌<◌, ◌⊎◌, List, [], ◌++◌, length, codes, Option, Some, None, Result, Ok, Err, IsOk}
 use Rattle.outside.specs.Files.{Files, put, content, IsFront, Exceeds}
 use Rattle.outside.specs.declared.fault.Fault.{Fault}
 use Rattle.glif.specs.declared.shape.Drawing.{Drawing}
 use Rattle.vfb.specs.Command.{Tuples}
-use Rattle.vfb.specs.Faults.{drawings_of}
+use Rattle.vfb.specs.Faults.{drawing_in, drawings_of}
 use Rattle.vfb.specs.Glyph.{IsData, DrawsBetween}
 use Rattle.vfb.specs.Lines.{AddsLine, refused_line, usage_line, read_fault_line, write_fault_line, no_memory_line, summary}
 use Rattle.vfb.specs.declared.status.Status.{Status}
@@ -64,20 +64,21 @@ abbrev pub BreaksOff : Type 0 → List ℕ → List ℕ → List ℕ → Type 0
 BreaksOff risen text old new =
     risen × ((front : List ℕ) × IsFront front text × AddsLine risen (write_fault_line (codes "-")) (old ++ front) new)
 
--- the text said for a command, where risen says that the count of faults of saying rose
-abbrev pub SaysOf : Tuples → Result (Drawing × Drawing) Fault → Type 0 → List ℕ → List ℕ → Status → Type 0
-SaysOf command (Ok drawings) risen old new status.Ok = new ≡ old ++ summary drawings.0 drawings.1
-SaysOf command (Ok drawings) risen old new status.WriteFault =
+-- The text said for a command, where risen says that the count of faults of saying rose. The second file is read only
+-- where the first one is a drawing.
+abbrev pub SaysOf : Tuples → Files → Result (Drawing × Drawing) Fault → Type 0 → List ℕ → List ℕ → Status → Type 0
+SaysOf command files (Ok drawings) risen old new status.Ok = new ≡ old ++ summary drawings.0 drawings.1
+SaysOf command files (Ok drawings) risen old new status.WriteFault =
     AddsLine risen (write_fault_line command.out) old new ⊎ BreaksOff risen (summary drawings.0 drawings.1) old new
-SaysOf command (Err _) risen old new (status.Refused fault) = AddsLine risen (refused_line fault) old new
-SaysOf command _ risen old new status.ReadFault =
-    AddsLine risen (read_fault_line command.first) old new ⊎ AddsLine risen (read_fault_line command.second) old new
-SaysOf command _ risen old new status.NoMemory = AddsLine risen no_memory_line old new
-SaysOf command _ risen old new _ = ⊥
+SaysOf command files (Err _) risen old new (status.Refused fault) = AddsLine risen (refused_line fault) old new
+SaysOf command files _ risen old new status.ReadFault =
+    AddsLine risen (read_fault_line command.first) old new ⊎ (IsOk (drawing_in (files command.first) command.first) × AddsLine risen (read_fault_line command.second) old new)
+SaysOf command files _ risen old new status.NoMemory = AddsLine risen no_memory_line old new
+SaysOf command files _ risen old new _ = ⊥
 
 abbrev pub IsSaid : Option Tuples → Files → Type 0 → List ℕ → List ℕ → Status → Type 0
 IsSaid None files risen old new status = AddsLine risen usage_line old new
-IsSaid (Some command) files risen old new status = SaysOf command (drawings_of files command) risen old new status
+IsSaid (Some command) files risen old new status = SaysOf command files (drawings_of files command) risen old new status
 
 -- After a write fault: the path said is that of the file which is cut short, or a dash where the file is whole and
 -- saying failed.

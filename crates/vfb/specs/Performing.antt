@@ -1,10 +1,10 @@
 -- What every function that performs a command makes of the outside, before the line of how it ended is said.
-use Rattle.std.specs.Prelude.{◌≡◌, ◌↔◌, ℕ, ◌≤◌, ◌⊎◌, List, ◌++◌, codes, Option, Some, None, Result, Ok, Err}
+use Rattle.std.specs.Prelude.{◌≡◌, ◌↔◌, ℕ, ◌≤◌, ◌⊎◌, List, ◌++◌, codes, Option, Some, None, Result, Ok, Err, IsOk}
 use Rattle.outside.specs.Files.{Files, put, IsFront, HasRisen}
 use Rattle.outside.specs.declared.fault.Fault.{Fault}
 use Rattle.glif.specs.declared.shape.Drawing.{Drawing}
 use Rattle.vfb.specs.Command.{Tuples}
-use Rattle.vfb.specs.Faults.{drawings_of}
+use Rattle.vfb.specs.Faults.{drawing_in, drawings_of}
 use Rattle.vfb.specs.Glyph.{IsData}
 use Rattle.vfb.specs.Lines.{summary}
 use Rattle.vfb.specs.Outcome.{IsAnswer, WritesNothing, IsCutShort, IsWritten, Draws, HasDrawings, LacksRoom, EndsBy}
@@ -18,16 +18,16 @@ abbrev pub SaysFront : Type 0 → List ℕ → List ℕ → List ℕ → Type 0
 SaysFront risen text old new = risen × ((front : List ℕ) × IsFront front text × (new ≡ old ++ front))
 
 -- the text that a command says itself, and which path its ending names
-abbrev pub SaysItself : Tuples → Result (Drawing × Drawing) Fault → Type 0 → List ℕ → List ℕ → Ending → Type 0
-SaysItself command (Ok drawings) risen old new Done = new ≡ old ++ summary drawings.0 drawings.1
-SaysItself command (Ok drawings) risen old new (WriteFault path) =
+abbrev pub SaysItself : Tuples → Files → Result (Drawing × Drawing) Fault → Type 0 → List ℕ → List ℕ → Ending → Type 0
+SaysItself command files (Ok drawings) risen old new Done = new ≡ old ++ summary drawings.0 drawings.1
+SaysItself command files (Ok drawings) risen old new (WriteFault path) =
     ((path.now ≡ command.out) × (new ≡ old)) ⊎ ((path.now ≡ codes "-") × SaysFront risen (summary drawings.0 drawings.1) old new)
-SaysItself command _ risen old new (ReadFault path) = ((path.now ≡ command.first) ⊎ (path.now ≡ command.second)) × (new ≡ old)
-SaysItself command _ risen old new _ = new ≡ old
+SaysItself command files _ risen old new (ReadFault path) = ((path.now ≡ command.first) ⊎ (IsOk (drawing_in (files command.first) command.first) × (path.now ≡ command.second))) × (new ≡ old)
+SaysItself command files _ risen old new _ = new ≡ old
 
 abbrev pub IsSaidItself : Option Tuples → Files → Type 0 → List ℕ → List ℕ → Ending → Type 0
 IsSaidItself None files risen old new ending = new ≡ old
-IsSaidItself (Some command) files risen old new ending = SaysItself command (drawings_of files command) risen old new ending
+IsSaidItself (Some command) files risen old new ending = SaysItself command files (drawings_of files command) risen old new ending
 
 -- where an ending is a write fault, it names the file that is cut short, or a dash where the file is whole
 abbrev pub FailsItself : Tuples → Result (Drawing × Drawing) Fault → Type 0 → Files → Files → List ℕ → List ℕ → Ending → Type 0

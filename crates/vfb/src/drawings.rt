@@ -1,4 +1,4 @@
-ghost use Rattle.std.specs.Prelude.{◌≡◌, ◌↔◌, ◌⊎◌, map, length, IsTrue, IfOk};
+ghost use Rattle.std.specs.Prelude.{◌≡◌, ◌↔◌, ◌⊎◌, map, length, IsTrue, IsOk, IfOk};
 ghost use Rattle.glif.specs.Limits.{IsWithinLimits};
 ghost use Rattle.glif.specs.Reading.{plain_drawing};
 ghost use Rattle.vfb.specs.Compatible.{AreCompatible};
@@ -104,7 +104,7 @@ pub(crate) fn read_drawings<'a, S: Sources>(
     command: &Command<'a>,
     sources: &mut S,
 ) -> Result<(Drawing, Drawing), ReadStop<'a>>
-    ensures reads { Reads S.tells S.files S.faults S.is_sure sources.old sources.new (λ named. (named ≡ command.now.first.now) ⊎ (named ≡ command.now.second.now)) (drawings_of (S.files sources.old) (asked command.now)) result }
+    ensures reads { Reads S.tells S.files S.faults S.is_sure sources.old sources.new (λ named. (named ≡ command.now.first.now) ⊎ ((named ≡ command.now.second.now) × (S.tells sources.old → IsOk (drawing_in (S.files sources.old command.now.first.now) command.now.first.now)))) (drawings_of (S.files sources.old) (asked command.now)) result }
     ensures compatible { IfOk result (λ drawings. AreCompatible drawings.0 drawings.1) }
 {
     let first = match read_drawing(alloc, command.first, sources) {

@@ -27,7 +27,22 @@ fn perform<'a, S: Sources, O: Outputs, T: Say>(
     }
 }
 
-/// Does what the words ask for ...
+/// Does what the words ask for, of which the first is the program's name. Files are read from `sources`
+/// and written to `outputs`, and text is said to `say`.
+///
+/// The words `tuples`, OUT, FIRST`@0` and SECOND`@16384` ask for the variation data of a glyph on one
+/// axis (OpenType, "gvar"), of which the files FIRST and SECOND have the drawings at the default and at
+/// the end of the axis. The files are read in this order, and a fault of the one comes before the other
+/// is read. All is done in memory first; then OUT is begun, the data are appended in one piece, and a
+/// line says what they hold.
+///
+/// # Errors
+///
+/// `Status` says how the run ended. Where that isn't `Ok` a last line is said of it; making it takes no
+/// memory, and where it can't be said the status stays. `Usage` comes exactly where the words are none
+/// of these, and `Refused` exactly where the files have a fault. `ReadFault` and `WriteFault` come only
+/// where a device failed, and `NoMemory` where memory ran out; either may come in place of `Refused`.
+/// `Rejected` doesn't come yet. But for `Ok` and `WriteFault` no file was begun.
 pub fn run<S: Sources, O: Outputs, T: Say>(
     alloc: Global,
     words: &Vec<String>,
@@ -56,7 +71,7 @@ pub fn run<S: Sources, O: Outputs, T: Say>(
     ensures complete_sure { S.tells sources.old → S.is_sure sources.old → O.tells outputs.old → O.is_sure outputs.old → T.tells say.old → T.is_sure say.old → HasDrawings (command_of (map string_bytes words.now.items)) (S.files sources.old) → EndsBy (LacksRoom (command_of (map string_bytes words.now.items)) (S.files sources.old) (O.room outputs.old) (T.room say.old) (T.said say.old)) result }
 {
     let ending = perform(alloc, words, sources, outputs, say);
-    // Where the line can't be said, the status tells all the same.
+    // A line that can't be said changes nothing.
     let _ = say_ending(say, &ending);
     ending.into_status()
 }

@@ -1,7 +1,7 @@
 ghost use Rattle.std.specs.Prelude.{Some};
 ghost use Rattle.vfb.specs.Performing.{Performs};
 ghost use Rattle.vfb.specs.Words.{asked};
-ghost use Rattle.vfb.specs.Writing.{Writes};
+ghost use Rattle.vfb.specs.Writing.{WritesFile};
 
 use crate::deltas::data_of;
 use crate::drawings::read_drawings;
@@ -13,7 +13,7 @@ use std::alloc::Global;
 
 /// Writes the bytes to the path in one piece.
 fn write_file<O: Outputs>(outputs: &mut O, path: &str, bytes: &[u8]) -> Result<(), Failed>
-    ensures { Writes O.tells O.files O.faults O.is_sure O.room outputs.old outputs.new path.now bytes.now result }
+    ensures { WritesFile O.tells O.files O.faults O.is_sure O.room outputs.old outputs.new path.now bytes.now result }
 {
     match outputs.begin(path) {
         Ok(()) => outputs.append(bytes),
