@@ -1,0 +1,3 @@
+pub mod MasterOrder
+pub mod Regions
+pub mod Places
