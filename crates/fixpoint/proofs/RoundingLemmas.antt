@@ -1,10 +1,10 @@
 -- Rounding by its bounds, which are all that the code and the crates above need of `round_up`.
 -- `omega` reads a signed number z as `up z - down z`.
-use Rattle.std.proofs.Common.{◌≡◌, ℕ, ℤ, suc, pos, negsuc, neg_ℤ, ◌+ℤ◌, ◌-ℤ◌, ◌*ℤ◌, ◌≤ℤ◌, ◌<ℤ◌, ◌+◌, ◌*◌, ◌<◌, ◌≤◌, arith}
+use Rattle.std.proofs.Common.{◌≡◌, refl, ap, ℕ, ℤ, zero, suc, pos, negsuc, neg_ℤ, ◌+ℤ◌, ◌-ℤ◌, ◌*ℤ◌, ◌≤ℤ◌, ◌<ℤ◌, ◌+◌, ◌*◌, ◌<◌, ◌≤◌, arith}
 use Rattle.std.proofs.lemmas.Int.{ints}
 use Rattle.std.proofs.Math.Nat.{mul-le-mul_left, le-mul_of_pos_right, lt_of_mul-lt-mul_right}
-use Rattle.std.specs.Int.{int_div_euclid}
-use Rattle.std.specs.Int.RustNames.{unsigned_abs}
+use Rattle.std.specs.Int.{Width, int_div_euclid, int_rem_euclid}
+use Rattle.std.specs.Int.RustNames.{FitsSigned, unsigned_abs}
 use borrow.Author.Differences.{up, down}
 use Rattle.fixpoint.specs.Rounding.{round_up, round_down, IsNearestUp}
 
@@ -13,6 +13,7 @@ times_pos : (z : ℤ) (k : ℕ) → (up (z *ℤ pos k) ≡ up z * k) × (down (z
 times_pos (pos a) k = omega (arith, ints)
 times_pos (negsuc a) k = omega (arith, ints)
 
+-- a number twice, in parts
 twice : (z : ℤ) → (up (pos 2 *ℤ z) ≡ 2 * up z) × (down (pos 2 *ℤ z) ≡ 2 * down z)
 twice (pos a) = omega (arith, ints)
 twice (negsuc a) = omega (arith, ints)
@@ -79,7 +80,7 @@ round_up_at_least n d least some low =
     factor_le (down (round_up n d)) (least + up (round_up n d)) d (omega (arith, ints, near)) in
     omega (arith, ints)
 
--- what follows of one product at most another, nearest to the first over b
+-- a part of a number that is not negative is at most the whole
 scaled_at_most : (s a b : ℕ) → 0 < b → a ≤ b → round_up (pos s *ℤ pos a) b ≤ℤ pos s
 scaled_at_most s a b some fraction =
     let near = nearest_parts (pos s *ℤ pos a) b (round_up (pos s *ℤ pos a) b) (round_up_bounds (pos s *ℤ pos a) b some) in
@@ -88,7 +89,7 @@ scaled_at_most s a b some fraction =
     factor_le (up (round_up (pos s *ℤ pos a) b)) (s + down (round_up (pos s *ℤ pos a) b)) b (omega (arith, ints, near)) in
     omega (arith, ints)
 
--- a part of s: the fraction a / b, at most 1, of a number that is not negative
+-- the same of signed numbers: the part a / b of s lies between nothing and the whole
 pub scaled_within : (s a : ℤ) (b : ℕ) → 0 < b → pos 0 ≤ℤ s → pos 0 ≤ℤ a → a ≤ℤ pos b → (pos 0 ≤ℤ round_up (s *ℤ a) b) × (round_up (s *ℤ a) b ≤ℤ s)
 scaled_within (pos s) (pos a) b some whole part fraction =
     (round_up_at_least (pos s *ℤ pos a) b 0 some (omega (arith, ints)), scaled_at_most s a b some (omega (arith, ints)))
@@ -116,6 +117,12 @@ size_below : (z : ℤ) (bound : ℕ) → neg_ℤ (pos bound) ≤ℤ z → z ≤�
 size_below (pos z) bound low high = omega (arith, ints)
 size_below (negsuc z) bound low high = omega (arith, ints)
 
+-- a number and its negation are of one size
+size_of_neg : (z : ℤ) → unsigned_abs (neg_ℤ z) ≡ unsigned_abs z
+size_of_neg (pos zero) = refl
+size_of_neg (pos (suc n)) = refl
+size_of_neg (negsuc n) = refl
+
 -- rounding makes no number greater in size
 pub round_size : (n : ℤ) (d : ℕ) → 0 < d → unsigned_abs (round_up n d) ≤ unsigned_abs n
 round_size (pos n) d some =
@@ -130,3 +137,68 @@ comes_back t m =
     let near = nearest_parts (neg_ℤ ((pos 65536 *ℤ m) -ℤ t)) 65536 u (round_up_bounds (neg_ℤ ((pos 65536 *ℤ m) -ℤ t)) 65536 (omega arith)) in
     round_up_is (t +ℤ (pos 65536 *ℤ neg_ℤ u)) 65536 m (omega arith)
     (parts_of_nearest (t +ℤ (pos 65536 *ℤ neg_ℤ u)) 65536 m (omega (arith, ints, near)) (omega (arith, ints, near)))
+
+-- both roundings of a number that fits a type fit it
+pub round_up_fits : (w : Width) (n : ℤ) (d : ℕ) → 0 < d → FitsSigned w n → FitsSigned w (round_up n d)
+round_up_fits w (pos n) d some fits =
+    let low = round_up_at_least (pos n) d 0 some (omega (arith, ints)) in
+    let high = round_up_at_most (pos n) d n some (omega (arith, ints)) in
+    omega (arith, ints)
+round_up_fits w (negsuc n) d some fits =
+    let low = round_up_at_least (negsuc n) d (suc n) some (omega (arith, ints)) in
+    let high = round_up_at_most (negsuc n) d 0 some (omega (arith, ints)) in
+    omega (arith, ints)
+
+pub round_down_fits : (w : Width) (n : ℤ) (d : ℕ) → 0 < d → FitsSigned w n → FitsSigned w (round_down n d)
+round_down_fits w (pos n) d some fits =
+    let low = round_up_at_least (neg_ℤ (pos n)) d n some (omega (arith, ints)) in
+    let high = round_up_at_most (neg_ℤ (pos n)) d 0 some (omega (arith, ints)) in
+    omega (arith, ints)
+round_down_fits w (negsuc n) d some fits =
+    let low = round_up_at_least (pos (suc n)) d 0 some (omega (arith, ints)) in
+    let high = round_up_at_most (pos (suc n)) d (suc n) some (omega (arith, ints)) in
+    omega (arith, ints)
+
+-- and neither is greater in size
+pub round_down_size : (n : ℤ) (d : ℕ) → 0 < d → unsigned_abs (round_down n d) ≤ unsigned_abs n
+round_down_size n d some = omega (arith, size_of_neg n, size_of_neg (round_up (neg_ℤ n) d), round_size (neg_ℤ n) d some)
+
+-- to divide is to take the part 1 / d
+pub times_one : (n : ℤ) → n *ℤ pos 1 ≡ n
+times_one (pos n) = omega (arith, ints)
+times_one (negsuc n) = omega (arith, ints)
+
+-- a difference from 0, as code writes a number of the other sign
+pub zero_minus : (n : ℤ) → pos 0 -ℤ n ≡ neg_ℤ n
+zero_minus n = omega (arith, ints)
+
+-- what rounding down leaves of a number, in parts
+rest_parts : (x : ℤ) (k : ℕ) → 0 < k → (up (int_rem_euclid x (pos k)) + up (int_div_euclid x (pos k)) * k + down x ≡ down (int_div_euclid x (pos k)) * k + up x) × (down (int_rem_euclid x (pos k)) ≡ 0) × (up (int_rem_euclid x (pos k)) < k)
+rest_parts (pos a) k some = omega arith
+rest_parts (negsuc a) k some = omega arith
+
+-- a rest below the half: the quotient is nearest
+pub floor_is_nearest : (n d : ℤ) → pos 0 <ℤ d → int_rem_euclid n d <ℤ (d -ℤ int_rem_euclid n d) → round_up n (unsigned_abs d) ≡ int_div_euclid n d
+floor_is_nearest n (pos d) some less =
+    let above : 0 < d = omega (arith, ints) in
+    let rest = rest_parts n d above in
+    round_up_is n d (int_div_euclid n (pos d)) above
+    (parts_of_nearest n d (int_div_euclid n (pos d)) (omega (arith, ints, rest)) (omega (arith, ints, rest)))
+floor_is_nearest n (negsuc d) some less = absurd (omega (arith, ints))
+
+-- the product of the next number, in parts
+next_parts : (q : ℤ) (k : ℕ) → up (q +ℤ pos 1) * k + down q * k ≡ up q * k + k + down (q +ℤ pos 1) * k
+next_parts q k =
+    let line : up (q +ℤ pos 1) + down q ≡ up q + 1 + down (q +ℤ pos 1) = omega (arith, ints) in
+    omega (arith, ap (λ (x : ℕ). x * k) line)
+
+-- a rest of the half or more: the next number is
+pub next_is_nearest : (n d : ℤ) → pos 0 <ℤ d → (d -ℤ int_rem_euclid n d) ≤ℤ int_rem_euclid n d → round_up n (unsigned_abs d) ≡ int_div_euclid n d +ℤ pos 1
+next_is_nearest n (pos d) some more =
+    let above : 0 < d = omega (arith, ints) in
+    let rest = rest_parts n d above in
+    let q = int_div_euclid n (pos d) in
+    let next = next_parts q d in
+    round_up_is n d (q +ℤ pos 1) above
+    (parts_of_nearest n d (q +ℤ pos 1) (omega (arith, ints, rest)) (omega (arith, ints, rest)))
+next_is_nearest n (negsuc d) some more = absurd (omega (arith, ints))

@@ -3,6 +3,8 @@
 
 mod number;
 mod plane;
+mod rounding;
 
 pub use number::Fix;
 pub use plane::Pair;
+pub use rounding::{divide_down, divide_up, mul_div_down, mul_div_up, scale};

@@ -1,13 +1,17 @@
-ghost use Rattle.std.specs.Prelude.{◌≡◌, ℕ, ℤ, pos, neg_ℤ, ◌+ℤ◌, ◌-ℤ◌, ◌^◌, ◌≤◌};
+ghost use Rattle.std.specs.Option.{SomeIff};
+ghost use Rattle.fixpoint.specs.Rounding.{round_up};
+ghost use Rattle.std.specs.Prelude.{◌*ℤ◌, ◌≤ℤ◌, ◌≡◌, ℕ, ℤ, pos, neg_ℤ, ◌+ℤ◌, ◌-ℤ◌, ◌^◌, ◌≤◌};
 ghost use Rattle.std.specs.Int.RustNames.{FitsSigned};
 ghost use mir.Syntax.{w32};
 
+use crate::rounding::mul_div_up;
 use std::marker::Model;
 use std::ops::{Add, Neg, Sub};
 
-/// A signed fixed-point number with `F` binary places, as OpenType's `F2DOT14` (`F` is 14) and
-/// `Fixed` (`F` is 16): it means its raw number / 2^`F`. Contracts see the raw number. Equality, order
-/// and hash are those of the raw number, and so of the number meant.
+/// A signed fixed-point number with `F` binary places, at most 30: it means its raw number / 2^`F`.
+/// OpenType's `F2DOT14` has 14 places and its `Fixed` 16 ("Data Types"). Contracts see the raw number.
+/// Equality, order and hash are those of the raw number, and so of the number meant; sums, differences
+/// and negations are those of the numbers, and take a raw result that fits.
 #[derive(Clone, Copy, Debug, PartialEq, Eq, PartialOrd, Ord, Hash)]
 pub struct Fix<const F: u32> {
     raw: i32,
@@ -51,6 +55,27 @@ impl<const F: u32> Fix<F> {
     {
         Fix { raw: 1 << F }
     }
+
+    /// The same number with `G` binary places, rounded to the nearest such number, a tie going up;
+    /// `None` exactly where that number does not fit.
+    pub fn refrac<const G: u32>(self) -> Option<Fix<G>>
+        requires from { F ≤ 30 }
+        requires to { G ≤ 30 }
+        ensures { let raw = round_up (self.entry *ℤ pos (2 ^ G)) (2 ^ F) in
+            SomeIff result (FitsSigned w32 raw) raw }
+    {
+        let raw = mul_div_up(self.wide(), unit(G), unit(F));
+        let raw = i32::try_from(raw).ok()?;
+        Some(Fix { raw })
+    }
+}
+
+// The raw number of 1 with so many binary places.
+fn unit(places: u32) -> i64
+    requires { places ≤ 30 }
+    ensures { result ≡ pos (2 ^ places) }
+{
+    1 << places
 }
 
 impl<const F: u32> Add for Fix<F> {
@@ -90,5 +115,52 @@ impl<const F: u32> Neg for Fix<F> {
 
     fn neg(self) -> Fix<F> {
         Fix { raw: -self.raw }
+    }
+}
+
+#[cfg(test)]
+mod tests {
+    use super::*;
+
+    // Each row: a raw number with 2 places, and its raw number with 4, which fits or does not.
+    #[test]
+    fn changes_places(rt: HostRuntime) {
+        let finer = [
+            (-536870913, None),
+            (-536870912, Some(i32::MIN)),
+            (-1, Some(-4)),
+            (536870911, Some(2147483644)),
+            (536870912, None),
+        ];
+        for (raw, want) in finer {
+            let found = Fix::<2>::from_raw(raw).refrac::<4>();
+            assert_eq!(rt;
+                found.map(|fix| fix.raw()),
+                want,
+                "{raw} with two more places"
+            );
+        }
+
+        // The same from 16 places to 14, with ties of both signs.
+        let coarser = [
+            (i32::MIN, -536870912),
+            (-6, -1),
+            (-3, -1),
+            (-2, 0),
+            (2, 1),
+            (5, 1),
+            (6, 2),
+            (i32::MAX, 536870912),
+        ];
+        for (raw, want) in coarser {
+            let found = Fix::<16>::from_raw(raw).refrac::<14>();
+            assert_eq!(rt;
+                found.map(|fix| fix.raw()),
+                Some(want),
+                "{raw} with two places fewer"
+            );
+        }
+        assert_eq!(rt; Fix::<30>::one().raw(), 1073741824);
+        assert_eq!(rt; Fix::<14>::one().refrac::<16>(), Some(Fix::one()));
     }
 }

@@ -1,1 +1,5 @@
 pub mod Saying
+pub mod Streams
+pub mod Puts
+mod Cut
+mod PlaceLists

@@ -1,11 +1,10 @@
 -- What a read of one file answers.
-use Rattle.std.specs.Prelude.{◌≡◌, ℕ, ◌≤◌, ◌<◌, List, length, Option, Some, None, Result, Ok, Err}
+use Rattle.std.specs.Prelude.{◌≡◌, ℕ, ◌≤◌, ◌<◌, List, length, Option, Some, None, Result, Err}
 use Rattle.outside.specs.Files.{HasRisen}
-use Rattle.outside.specs.Counting.{one_more}
 use Rattle.outside.specs.declared.traits.Found.{Found}
 use Rattle.outside.specs.declared.traits.Found.TheVariants.{Bytes, Absent, TooLong}
 use Rattle.outside.specs.declared.traits.ReadError.{ReadError}
-use Rattle.outside.specs.declared.traits.ReadError.TheVariants.{Failed, NoMemory}
+use Rattle.outside.specs.declared.traits.ReadError.TheVariants.{Failed}
 
 -- what is found is what the file holds: its bytes within the limit, nothing, or its length beyond the limit
 abbrev pub Finds : Option (List ℕ) → ℕ → Found → Type 0
@@ -31,19 +30,3 @@ CountsReads before after _ = before ≤ after
 abbrev pub NeverFails : Result Found ReadError → Type 0
 NeverFails (Err Failed) = ⊥
 NeverFails _ = Unit {0}
-
--- a read that never fails answers what the file holds; memory may run out only where its bytes are asked for
-abbrev pub Answers : Option (List ℕ) → ℕ → Result Found ReadError → Type 0
-Answers file limit (Ok found) = Finds file limit found
-Answers (Some bytes) limit (Err NoMemory) = length bytes ≤ limit
-Answers _ limit (Err _) = ⊥
-
--- the same for a read that may also fail
-abbrev pub AnswersUnlessFailed : Option (List ℕ) → ℕ → Result Found ReadError → Type 0
-AnswersUnlessFailed file limit (Err Failed) = Unit {0}
-AnswersUnlessFailed file limit result = Answers file limit result
-
--- the count of faults after a read: one more exactly where it failed
-abbrev pub count_after_read : ℕ → Result Found ReadError → ℕ
-count_after_read count (Err Failed) = one_more count
-count_after_read count _ = count

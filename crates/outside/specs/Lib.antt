@@ -3,8 +3,16 @@ pub mod Files
 pub mod FirstAt
 pub mod Found
 pub mod Kinds
+pub mod Answered
+pub mod SureSources
 pub mod MemorySources
 pub mod Piece
 pub mod Reading
 pub mod Said
-pub mod SureSources
+pub mod Stream
+pub mod Stored
+pub mod SureSay
+pub mod MemorySay
+pub mod Placed
+pub mod SureOutputs
+pub mod MemoryOutputs

@@ -7,8 +7,8 @@ use crate::list::Seq;
 /// call. That number stops behind the last one that a list can name.
 #[derive(Drop)]
 pub(crate) struct Failures {
-    pub(crate) failing: Seq<u64>,
-    pub(crate) next: u128,
+    failing: Seq<u64>,
+    next: u128,
 }
 
 impl Failures {
@@ -19,9 +19,9 @@ impl Failures {
         Failures { failing, next: 0 }
     }
 
-    /// Counts a call, and answers whether it is to fail.
-    pub(crate) fn is_due(&mut self) -> bool
-        ensures due { IsTrue result ↔ Contains self.old.failing self.old.next }
+    /// Counts the next call, and answers whether it is to fail.
+    pub(crate) fn next_fails(&mut self) -> bool
+        ensures fails { IsTrue result ↔ Contains self.old.failing self.old.next }
         ensures next { self.new ≡ record self.old { next = next_number self.old.next } }
     {
         let call = self.next;

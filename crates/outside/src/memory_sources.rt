@@ -1,6 +1,6 @@
-ghost use Rattle.std.specs.Prelude.{◌≡◌, ◌↔◌, IfOk, IsErrOf, Contains};
+ghost use Rattle.std.specs.Prelude.{◌≡◌, ◌↔◌, IsErrOf, Contains};
 ghost use Rattle.outside.specs.FirstAt.{first_at};
-ghost use Rattle.outside.specs.Found.{Finds, AnswersUnlessFailed, count_after_read};
+ghost use Rattle.outside.specs.Answered.{AnswersUnlessFailed, count_after_read};
 ghost use Rattle.outside.specs.Counting.{next_number};
 ghost use Rattle.outside.specs.MemorySources.{files_of, failing_of, next_of, faults_of};
 
@@ -53,7 +53,7 @@ impl Sources for MemorySources {
         ensures failing { failing_of self.new ≡ failing_of self.old }
         ensures next { next_of self.new ≡ next_number (next_of self.old) }
     {
-        if self.failures.is_due() {
+        if self.failures.next_fails() {
             self.faults = self.faults.saturating_add(1);
             return Err(ReadError::Failed);
         }

@@ -1,6 +1,6 @@
 ghost use Rattle.std.specs.Prelude.{◌≡◌, option_map};
 ghost use Rattle.outside.specs.FirstAt.{first_at};
-ghost use Rattle.outside.specs.Found.{Answers};
+ghost use Rattle.outside.specs.Answered.{Answers};
 ghost use Rattle.outside.specs.SureSources.{files_of};
 
 use crate::list::Seq;

@@ -5,3 +5,10 @@ pub mod TupleVariations
 pub mod Scalar
 pub mod InferredDelta
 pub mod DrawnOutline
+pub mod FontUnits
+pub mod PointDelta
+pub mod DrawnGlyph
+pub mod Decoding
+pub mod DecodingDeltas
+pub mod DecodingPoints
+pub mod DecodingTuples

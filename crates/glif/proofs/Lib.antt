@@ -1,0 +1,5 @@
+mod Text
+mod Many
+mod Pieces
+mod Lines
+pub mod Laws

@@ -1,0 +1,24 @@
+-- The limits of an outline that can be built: of its numbers, and of how many points it has.
+use Rattle.std.specs.Prelude.{◌≤◌, pos, negsuc, ◌≤ℤ◌, List, length, All, sum_by}
+use Rattle.glif.specs.declared.shape.Point.{Point}
+use Rattle.glif.specs.declared.shape.Outline.{Outline}
+
+-- each coordinate is in -16384 .. 16383
+pub record IsPointWithin (point : Point) : Type 0 where
+  pub least_x : negsuc 16383 ≤ℤ point.x
+  pub greatest_x : point.x ≤ℤ pos 16383
+  pub least_y : negsuc 16383 ≤ℤ point.y
+  pub greatest_y : point.y ≤ℤ pos 16383
+
+-- 1 to 1,024 points, each within limits
+pub record IsContourWithin (points : List Point) : Type 0 where
+  pub least : 1 ≤ length points
+  pub greatest : length points ≤ 1024
+  pub points_within : All IsPointWithin points
+
+-- an advance width in 0 .. 16383, contours within limits, and at most 4,000 points in all
+pub record IsWithinLimits (outline : Outline) : Type 0 where
+  pub least_advance : pos 0 ≤ℤ outline.advance
+  pub greatest_advance : outline.advance ≤ℤ pos 16383
+  pub contours_within : All IsContourWithin outline.contours
+  pub points : sum_by length outline.contours ≤ 4000

@@ -1,0 +1,4 @@
+pub mod FirstRun
+pub mod PackedDeltas
+pub mod OnePacking
+pub mod OneTuple

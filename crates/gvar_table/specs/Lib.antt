@@ -1,0 +1,3 @@
+pub mod OneTuple
+pub mod FirstRun
+pub mod Laws

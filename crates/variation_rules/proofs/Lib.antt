@@ -1,0 +1,17 @@
+pub mod DrawingLemmas
+pub mod InferredLemmas
+pub mod FillingLemmas
+pub mod DecodingSteps
+pub mod DecodingLoops
+pub mod DecodingRising
+pub mod DecodingRuns
+pub mod DecodingParts
+pub mod DecodingReaders
+pub mod DecodingFields
+pub mod DecodingDeltaRuns
+pub mod DecodingPointRuns
+pub mod DecodingHeaders
+pub mod DecodingTupleParts
+pub mod DecodingGlyph
+pub mod FillsAreOne
+pub mod FontUnitLemmas

@@ -1,0 +1,11 @@
+use Rattle.std.proofs.Common.{◌≡◌, ◌-◌, length}
+use Rattle.variation_rules.specs.Decoding.{filled}
+use Rattle.variation_rules.specs.DecodingPoints.{difference_run_at}
+use Rattle.variation_rules.proofs.DecodingLoops.{with_front}
+use Rattle.variation_rules.proofs.packed.differences_at.Given as goal
+
+abbrev pub invariant-loop-alloc : goal.invariant-loop-alloc
+invariant-loop-alloc l = with_front l.differences.items (filled difference_run_at (l.wanted - length l.differences.items) l.rest) ≡ filled difference_run_at l.wanted l.bytes
+
+abbrev pub decreases-loop-alloc : goal.decreases-loop-alloc
+decreases-loop-alloc l = l.wanted - length l.differences.items
