@@ -48,10 +48,10 @@ side value = if int_lt value (pos 0) then 0 else 1
 abbrev pub compare_masters : List (List ℤ) → List ℤ → List ℤ → Ordering
 compare_masters locations a b =
     ordering_then (nat_cmp (rank a) (rank b))
-   (ordering_then (nat_cmp (points_from locations 0 b) (points_from locations 0 a))
-   (ordering_then (slice_cmp nat_cmp (axes_from 0 a) (axes_from 0 b))
-   (ordering_then (slice_cmp nat_cmp (map side (values_of a)) (map side (values_of b)))
-                  (slice_cmp nat_cmp (map unsigned_abs (values_of a)) (map unsigned_abs (values_of b))))))
+    (ordering_then (nat_cmp (points_from locations 0 b) (points_from locations 0 a))
+    (ordering_then (slice_cmp nat_cmp (axes_from 0 a) (axes_from 0 b))
+    (ordering_then (slice_cmp nat_cmp (map side (values_of a)) (map side (values_of b)))
+    (slice_cmp nat_cmp (map unsigned_abs (values_of a)) (map unsigned_abs (values_of b))))))
 
 -- each location comes before all later ones
 abbrev pub RisesBy : (List ℤ → List ℤ → Ordering) → List (List ℤ) → Type 0

@@ -6,4 +6,5 @@ use fixpoint::Fix;
 pub use variation_rules::Triple;
 
 pub type Location = ArrayVec<Fix<14>, 8>;
+
 pub type Support = ArrayVec<Triple, 8>;

@@ -1,0 +1,3 @@
+pub mod AxisLemmas
+pub mod BoxLemmas
+pub mod RegionLaw
