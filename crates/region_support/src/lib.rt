@@ -1,10 +1,17 @@
-//! The support model of a design space.
+//! The support model of a design space: the region of each master, and how much it counts at a location.
 #![tactic(auto)]
+
+mod cut;
+mod influence;
 
 use arrayvec::ArrayVec;
 use fixpoint::Fix;
+pub use influence::scalar;
 pub use variation_rules::Triple;
 
+/// A place in the design space: one normalised coordinate an axis (F2DOT14), in the font's order of axes, at
+/// most eight.
 pub type Location = ArrayVec<Fix<14>, 8>;
 
+/// The region of a master: one triple an axis, in the font's order of axes, at most eight.
 pub type Support = ArrayVec<Triple, 8>;
