@@ -1,5 +1,5 @@
 -- The region of each master: a box around its location, as wide as the masters reach, cut by the masters before it.
-use Rattle.std.specs.Prelude.{◌≡◌, ℕ, zero, suc, ℤ, pos, ◌+◌, ◌*◌, ◌^◌, ◌-ℤ◌, Bool, true, false, not, ◌&&◌, ◌||◌, List, [], ◌∷◌, ◌++◌, length, map, fold, if◌then◌else◌, unsigned_abs, int_lt, nat_lt}
+use Rattle.std.specs.Prelude.{◌≡◌, ℕ, ℤ, pos, ◌+◌, ◌*◌, ◌^◌, ◌-ℤ◌, Bool, true, false, not, ◌&&◌, ◌||◌, List, [], ◌∷◌, ◌++◌, length, map, fold, if◌then◌else◌, unsigned_abs, int_lt, nat_lt, slice_index_or}
 use Rattle.std.specs.List.{AllByRecursion}
 use Rattle.std.specs.Ordering.{int_eq}
 use Rattle.std.specs.Int.{int_min, int_max}
@@ -9,9 +9,7 @@ use Rattle.region_support.specs.MasterOrder.{is_zero}
 
 -- the location's value on the axis of this number
 abbrev pub value_on : ℕ → List ℤ → ℤ
-value_on axis [] = pos 0
-value_on zero (value ∷ _) = value
-value_on (suc axis) (_ ∷ values) = value_on axis values
+value_on axis at = slice_index_or at axis (pos 0)
 
 -- the least and the greatest value of any master on an axis, 0 among them
 abbrev pub least_on : List (List ℤ) → ℕ → ℤ

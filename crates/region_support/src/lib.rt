@@ -2,6 +2,7 @@
 #![tactic(auto)]
 
 mod cut;
+mod first;
 mod influence;
 
 use arrayvec::ArrayVec;
