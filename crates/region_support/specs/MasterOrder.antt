@@ -66,6 +66,11 @@ abbrev pub StartsWithDefault : List (List ℤ) → Type 0
 StartsWithDefault [] = ⊥
 StartsWithDefault (at ∷ _) = is_default at ≡ true
 
+-- how many axes the locations have
+abbrev pub axes_of : List (List ℤ) → ℕ
+axes_of [] = 0
+axes_of (at ∷ _) = length at
+
 -- The locations are those of masters in their order: the default first, no two equal, the rest by the order above.
 pub record AreMasters (axes : ℕ) (locations : List (List ℤ)) : Type 0 where
   pub default_first : StartsWithDefault locations

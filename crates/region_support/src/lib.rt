@@ -4,6 +4,9 @@
 mod cut;
 mod first;
 mod influence;
+mod support;
+#[cfg(test)]
+mod tests;
 
 use arrayvec::ArrayVec;
 use fixpoint::Fix;
