@@ -45,7 +45,7 @@ greatest_high at axis all here =
     among_all (λ z. z ≤ℤ greatest_on all axis) (value_on axis) at all (recursion_from_All (λ z. z ≤ℤ greatest_on all axis) (map (value_on axis) all) (fold-int_max_bounds (pos 0) (map (value_on axis) all) (greatest_on all axis) refl).1) here
 
 -- the form of an axis before any cut
-first_tells : (least greatest value : ℤ) → ((pos 0 <ℤ value) × (first_triple least greatest value ≡ record { start = pos 0; peak = value; end = greatest }))
+pub first_tells : (least greatest value : ℤ) → ((pos 0 <ℤ value) × (first_triple least greatest value ≡ record { start = pos 0; peak = value; end = greatest }))
     ⊎ (((value <ℤ pos 0) × (first_triple least greatest value ≡ record { start = least; peak = value; end = pos 0 }))
     ⊎ ((value ≡ pos 0) × (first_triple least greatest value ≡ record { start = pos 0; peak = pos 0; end = pos 0 })))
 first_tells least greatest value = grind (arith, ints)

@@ -1,5 +1,5 @@
 -- The region of each master: a box around its location, as wide as the masters reach, cut by the masters before it.
-use Rattle.std.specs.Prelude.{◌≡◌, ℕ, ℤ, pos, ◌+◌, ◌*◌, ◌^◌, ◌-ℤ◌, Bool, true, false, not, ◌&&◌, ◌||◌, List, [], ◌∷◌, ◌++◌, length, map, fold, if◌then◌else◌, unsigned_abs, int_lt, nat_lt, slice_index_or}
+use Rattle.std.specs.Prelude.{◌≡◌, ℕ, ℤ, pos, ◌+◌, ◌*◌, ◌^◌, ◌-ℤ◌, neg_ℤ, ◌≤ℤ◌, Bool, true, false, not, ◌&&◌, ◌||◌, List, [], ◌∷◌, ◌++◌, length, map, fold, if◌then◌else◌, unsigned_abs, int_lt, nat_lt, slice_index_or}
 use Rattle.std.specs.List.{AllByRecursion}
 use Rattle.std.specs.Ordering.{int_eq}
 use Rattle.std.specs.Int.{int_min, int_max}
@@ -97,3 +97,16 @@ abbrev pub AreTriangular : List (List Triple) → List (List ℤ) → Type 0
 AreTriangular regions [] = Unit {0}
 AreTriangular [] (at ∷ ats) = ⊥
 AreTriangular (region ∷ regions) (at ∷ ats) = EndsTheRow (region ∷ regions) at × AreTriangular regions ats
+
+-- a normalised coordinate: from -1 to 1 in F2DOT14
+abbrev pub IsNormalised : ℤ → Type 0
+IsNormalised z = (neg_ℤ (pos 16384) ≤ℤ z) × (z ≤ℤ pos 16384)
+
+abbrev pub IsNormalisedTriple : Triple → Type 0
+IsNormalisedTriple t = IsNormalised t.start × IsNormalised t.peak × IsNormalised t.end
+
+abbrev pub AreNormalisedPlaces : List (List ℤ) → Type 0
+AreNormalisedPlaces locations = AllByRecursion (λ at. AllByRecursion IsNormalised at) locations
+
+abbrev pub AreNormalisedRegions : List (List Triple) → Type 0
+AreNormalisedRegions regions = AllByRecursion (λ region. AllByRecursion IsNormalisedTriple region) regions
