@@ -1,14 +1,12 @@
 -- One axis of a region at a value: where the factor is 1, where it is 0, and what a cut leaves.
-use Rattle.std.proofs.Common.{◌≡◌, ◌≢◌, refl, sym, ◌∙◌, ap, subst, ℕ, zero, suc, ℤ, pos, negsuc, ◌*ℤ◌, ◌-ℤ◌, ◌≤ℤ◌, ◌<ℤ◌, ◌+◌, ◌*◌, ◌<◌, ◌≤◌, Bool, true, false, true≢false, ◌⊎◌, inl, inr, arith}
+use Rattle.std.proofs.Common.{◌≡◌, ◌≢◌, sym, ◌∙◌, ap, subst, ℕ, ℤ, pos, negsuc, ◌*ℤ◌, ◌≤ℤ◌, ◌<ℤ◌, ◌<◌, true, false, true≢false, ◌⊎◌, inl, inr, arith}
 use Rattle.std.specs.Prelude.{int_lt, int_le, unsigned_abs}
 use Rattle.std.specs.Ordering.{int_eq}
 use Rattle.std.proofs.lemmas.Int.{ints}
-use Rattle.std.proofs.lemmas.Bool.Decides.{Decides-int_eq}
 use Rattle.fixpoint.specs.Rounding.{round_up}
 use Rattle.fixpoint.proofs.RoundingLemmas.{scaled_by_one, scaled_by_zero}
 use Rattle.variation_rules.specs.declared.region.Triple.{Triple}
-use Rattle.variation_rules.specs.Scalar.{is_ignored, height, factor, scaled}
-use Rattle.region_support.specs.MasterOrder.{is_zero}
+use Rattle.variation_rules.specs.Scalar.{is_ignored, factor, scaled}
 use Rattle.region_support.specs.Regions.{is_within, ratio, is_below, cut_triple}
 
 -- what a test of two numbers tells

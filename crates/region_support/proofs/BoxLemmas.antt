@@ -1,11 +1,11 @@
 -- Regions at locations: which locations a region excludes, and that a cut excludes the master that makes it.
-use Rattle.std.proofs.Common.{◌≡◌, ◌≢◌, refl, sym, ◌∙◌, ap, subst, ℕ, zero, suc, ℤ, pos, ◌+◌, ◌*◌, ◌<◌, ◌≤◌, ◌^◌, Bool, true, false, ◌&&◌, not, true≢false, ◌⊎◌, inl, inr, List, [], ◌∷◌, if◌then◌else◌, length, filter, arith}
+use Rattle.std.proofs.Common.{◌≡◌, ◌≢◌, refl, sym, ◌∙◌, ap, subst, ℕ, ℤ, pos, ◌+◌, ◌<◌, ◌≤◌, Bool, true, false, ◌&&◌, true≢false, ◌⊎◌, inl, inr, List, [], ◌∷◌, if◌then◌else◌, length, arith}
 use Rattle.std.specs.Cmp.{first_so, second_so}
 use Rattle.variation_rules.specs.declared.region.Triple.{Triple}
 use Rattle.variation_rules.specs.Scalar.{scaled, scalar_from}
-use Rattle.region_support.specs.MasterOrder.{is_zero, rank}
-use Rattle.region_support.specs.Regions.{is_within, cuts, ratio, is_below, greatest_ratio, cut_triple, cut_triples, cut_by}
-use Rattle.region_support.proofs.AxisLemmas.{IsOut, IsShaped, eq_tells, inside_tells, IsInside, outside_tells, out_at_default, at_peak_tells, peak_ratio, zero_below, below_some, below_not_itself, cut_peak, cut_shaped, cut_keeps_out, cut_puts_out, whole_at_peak, nothing_outside, nothing_stays}
+use Rattle.region_support.specs.MasterOrder.{rank}
+use Rattle.region_support.specs.Regions.{is_within, cuts, ratio, is_below, greatest_ratio, cut_triples, cut_by}
+use Rattle.region_support.proofs.AxisLemmas.{IsOut, IsShaped, eq_tells, inside_tells, outside_tells, out_at_default, at_peak_tells, peak_ratio, zero_below, below_some, below_not_itself, cut_peak, cut_shaped, cut_keeps_out, cut_puts_out, whole_at_peak, nothing_outside, nothing_stays}
 
 -- the region has its peaks at the location, and each axis has its form
 abbrev pub IsBox : List ℤ → List Triple → Type 0

@@ -1,18 +1,17 @@
 -- The law of the regions: at a master's location its own region is whole and every later one is nothing.
-use Rattle.std.proofs.Common.{◌≡◌, ◌≢◌, refl, sym, ◌∙◌, ap, subst, ℕ, zero, suc, ℤ, pos, ◌≤ℤ◌, ◌<ℤ◌, ◌+◌, ◌<◌, ◌≤◌, ◌^◌, ◌⊎◌, inl, inr, List, [], ◌∷◌, ◌++◌, map, fold, length, zero-add, add-zero, arith}
+use Rattle.std.proofs.Common.{◌≡◌, ◌≢◌, refl, sym, ◌∙◌, ap, subst, ℕ, suc, ℤ, pos, ◌≤ℤ◌, ◌<ℤ◌, ◌+◌, ◌≤◌, ◌^◌, ◌⊎◌, inl, inr, List, [], ◌∷◌, ◌++◌, map, length, zero-add, add-zero, arith}
 use Rattle.std.specs.Prelude.{unsigned_abs}
-use Rattle.std.specs.List.{AllByRecursion, All}
-use Rattle.std.specs.Int.{int_min, int_max}
+use Rattle.std.specs.List.{AllByRecursion}
 use Rattle.std.specs.Ordering.{nat_cmp, ordering_then}
-use Rattle.std.proofs.Common.{Ordering, Less, Equal, Greater}
+use Rattle.std.proofs.Common.{Ordering, Less, Equal}
 use Rattle.std.specs.Cmp.Lexicographic.{slice_cmp}
 use Rattle.std.proofs.lemmas.Int.{ints, fold-int_max_bounds, fold-int_min_bounds}
 use Rattle.std.proofs.lemmas.List.Elements.{recursion_from_All}
 use Rattle.variation_rules.specs.declared.region.Triple.{Triple}
 use Rattle.variation_rules.specs.Scalar.{scalar_of}
 use Rattle.region_support.specs.MasterOrder.{values_of, axes_from, points_from, side, rank, compare_masters, RisesBy, AreMasters}
-use Rattle.region_support.specs.Regions.{value_on, least_on, greatest_on, first_triple, first_from, cut_by, cut_by_all, regions_after, regions_of, EndsTheRow, AreTriangular}
-use Rattle.region_support.proofs.AxisLemmas.{IsAbove, IsBelow, IsShaped}
+use Rattle.region_support.specs.Regions.{value_on, least_on, greatest_on, first_triple, first_from, cut_by, cut_by_all, regions_after, regions_of, AreTriangular}
+use Rattle.region_support.proofs.AxisLemmas.{IsShaped}
 use Rattle.region_support.proofs.BoxLemmas.{IsBox, IsExcluded, own_whole, excluded_nothing, meets, meets_box, meets_keeps}
 
 -- the location is one of the list

@@ -1,5 +1,5 @@
 -- Locations and supports as plain lists.
-use Rattle.std.specs.Prelude.{ℕ, ℤ, List, map}
+use Rattle.std.specs.Prelude.{ℤ, List, map}
 use Rattle.arrayvec.specs.ArrayVec.{ArrayVec}
 use Rattle.variation_rules.specs.declared.region.Triple.{Triple}
 

@@ -1,4 +1,4 @@
-use Rattle.std.proofs.Common.{◌≡◌, ◌++◌, take, drop, length}
+use Rattle.std.proofs.Common.{◌≡◌, ◌++◌, take, drop}
 use Rattle.region_support.specs.Regions.{cut_triples}
 use Rattle.region_support.proofs.cut.cut_triples.Given as goal
 

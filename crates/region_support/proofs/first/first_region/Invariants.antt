@@ -1,4 +1,4 @@
-use Rattle.std.proofs.Common.{◌≡◌, ◌++◌, take, drop, length}
+use Rattle.std.proofs.Common.{◌≡◌, ◌++◌, take, drop}
 use Rattle.region_support.specs.Places.{places_of}
 use Rattle.region_support.specs.Regions.{first_from}
 use Rattle.region_support.proofs.first.first_region.Given as goal
