@@ -2,9 +2,11 @@ ghost use Rattle.std.specs.Prelude.{◌↔◌, IsTrue, All};
 ghost use Rattle.gvar_table.specs.OneTuple.{IsDelta, IsDeltaNumber};
 
 use crate::{all_points, one_spelling};
+use fixpoint::Fix;
 use outside::{NoMemory, Seq};
 use std::alloc::Global;
 use std::test::*;
+use variation_rules::{Triple, TupleVariation, read_tuples};
 
 /// A peak, the x and the y numbers of deltas, and the bytes, worked out by hand.
 struct Case {
@@ -129,6 +131,37 @@ fn repeated(alloc: Global, values: &[i32], count: usize) -> Result<Vec<i32>, NoM
     Ok(values.iter().copied().cycle().take(count).collect(alloc)?)
 }
 
+/// Whether the tuple reaches from the default to the peak, names all points, and has these deltas.
+fn is_all_points(tuple: &TupleVariation, peak: i16, deltas: &[(i32, i32)]) -> bool {
+    let raw = i32::from(peak);
+    let triple = Triple {
+        start: Fix::from_raw(raw.min(0)),
+        peak: Fix::from_raw(raw),
+        end: Fix::from_raw(raw.max(0)),
+    };
+    let points = tuple.points.as_slice();
+    let pairs = tuple.deltas.as_slice();
+    tuple.region.as_slice() == [triple].as_slice()
+        && points.len() == deltas.len()
+        && pairs.len() == deltas.len()
+        && points
+            .iter()
+            .enumerate()
+            .all(|(i, point)| usize::from(*point) == i)
+        && deltas
+            .iter()
+            .zip(pairs)
+            .all(|(delta, pair)| delta.0 == pair.x && delta.1 == pair.y)
+}
+
+/// Whether the plain reader finds the one tuple of these deltas in the bytes.
+fn reads_back(alloc: Global, peak: i16, deltas: &[(i32, i32)], bytes: &[u8]) -> Result<bool, Fail> {
+    let peaks = Seq::new(alloc);
+    let total = u16::try_from(deltas.len())?;
+    let tuples = read_tuples(alloc, 1, total, &peaks, bytes)?.ok_or("no reading")?;
+    Ok(matches!(tuples.as_slice(), [tuple] if is_all_points(tuple, peak, deltas)))
+}
+
 #[test]
 fn bytes_by_hand(rt: HostRuntime) -> Result<(), Fail> {
     for case in &CASES {
@@ -136,6 +169,11 @@ fn bytes_by_hand(rt: HostRuntime) -> Result<(), Fail> {
         assert!(rt; deltas.len() <= 4004 && are_deltas(deltas.as_slice()));
         let bytes = all_points(rt.alloc(), case.peak, &deltas)?;
         assert_eq!(rt; bytes.as_slice(), case.bytes, "{}", case.name);
+        assert!(rt;
+            reads_back(rt.alloc(), case.peak, deltas.as_slice(), &bytes)?,
+            "{}",
+            case.name
+        );
     }
     Ok(())
 }
@@ -214,6 +252,11 @@ fn long_runs_by_hand(rt: HostRuntime) -> Result<(), Fail> {
         assert_eq!(rt; bytes.len(), case.len, "{}", case.name);
         assert!(rt; bytes.starts_with(case.front), "{}", case.name);
         assert!(rt; bytes.ends_with(case.back), "{}", case.name);
+        assert!(rt;
+            reads_back(rt.alloc(), 16384, deltas.as_slice(), &bytes)?,
+            "{}",
+            case.name
+        );
     }
     Ok(())
 }

@@ -1,7 +1,7 @@
 -- The reader of a glyph's data finds what the data mean, and nothing else: the bytes mean these tuples exactly
 -- where the reader finds them.
-use Rattle.std.proofs.Common.{◌≡◌, ℕ, ℤ, ◌+◌, ◌*◌, ◌/◌, ◌%◌, ◌<◌, ◌^◌, inl, inr, Bool, true, false, not, cond, eqb, List, [], ◌++◌, length, Option, Some, None, refl, sym, ap, subst, ◌∙◌, length-append, arith}
-use Rattle.std.proofs.lemmas.Bool.{eqb-true, eq-eqb, ne_eqb, not-false, not_from_true}
+use Rattle.std.proofs.Common.{bit_and, ◌≡◌, ℕ, ℤ, ◌+◌, ◌*◌, ◌/◌, ◌%◌, ◌<◌, ◌^◌, inl, inr, Bool, true, false, cond, eqb, List, [], ◌++◌, length, Option, Some, None, refl, sym, ap, subst, ◌∙◌, length-append, arith}
+use Rattle.std.proofs.lemmas.Bool.{eqb-true, eq-eqb, ne_eqb}
 use Rattle.std.proofs.lemmas.List.{nil_from_length}
 use Rattle.std.proofs.lemmas.Option.{same_Some}
 use Rattle.variation_rules.specs.declared.header.Head.{Head}
@@ -13,12 +13,13 @@ use Rattle.variation_rules.specs.PackedPoints.{ReadsPoints}
 use Rattle.variation_rules.specs.TupleVariations.{HasSharedPoints, shared_bits, IsGlyphData, MeansTuples}
 use Rattle.variation_rules.specs.Decoding.{◌>>=◌, many, word_at}
 use Rattle.variation_rules.specs.DecodingPoints.{points_at}
-use Rattle.variation_rules.specs.DecodingTuples.{has_bit, header_at, shared_points_at, front_at, headers_at, tuples_at, glyph_data_at, tuples_of}
+use Rattle.variation_rules.specs.DecodingTuples.{has_bits, header_at, shared_points_at, front_at, headers_at, tuples_at, glyph_data_at, tuples_of}
+use Rattle.variation_rules.proofs.DecodingBits.{bit, bit_below, low_twelve, digit_is, bits_are, no_middle_bits, middle_bits_are_none}
 use Rattle.variation_rules.proofs.DecodingSteps.{bind_some, when_some, either_some}
 use Rattle.variation_rules.proofs.DecodingReaders.{IsBytes, whole_stands, whole_again, Takes, IsReader, Then, Is, Made, Many, Count, then_reads, done_reads, made_reads, unless_reads, many_reads}
 use Rattle.variation_rules.proofs.DecodingFields.{Spells, word_reads}
 use Rattle.variation_rules.proofs.DecodingPointRuns.{points_read}
-use Rattle.variation_rules.proofs.DecodingHeaders.{HeaderText, header_reads, bit, bit_of_test, test_of_bit, bit_below}
+use Rattle.variation_rules.proofs.DecodingHeaders.{HeaderText, header_reads}
 use Rattle.variation_rules.proofs.DecodingTupleParts.{PartsText, parts_read, are_tuples, heads_of}
 
 abbrev Words : List ℕ → ℕ → Type 0
@@ -30,7 +31,7 @@ abbrev make_front : ℕ → ℕ → List Head → Front
 make_front count offset heads = record { count = count; offset = offset; heads = heads }
 
 abbrev HeadsText : ℕ → List (List ℤ) → ℕ → ℕ → List ℕ → Front → Type 0
-HeadsText axes peaks count offset text front = (not (eqb (count / 4096 % 8) 0) ≡ false) × Made (make_front count offset) (Count (HeaderText axes peaks) (count % 4096)) text front
+HeadsText axes peaks count offset text front = (has_bits 28672 count ≡ false) × Made (make_front count offset) (Count (HeaderText axes peaks) (bit_and count 4095)) text front
 
 abbrev FrontText : ℕ → List (List ℤ) → List ℕ → Front → Type 0
 FrontText axes peaks = Then Words (λ count. Then Words (λ offset. HeadsText axes peaks count offset))
@@ -39,12 +40,12 @@ front_reads : (axes : ℕ) (peaks : List (List ℤ)) → IsReader (FrontText axe
 unfolding front_at
 front_reads axes peaks =
     then_reads Words (λ count. Then Words (λ offset. HeadsText axes peaks count offset)) word_at
-    (λ count bytes. word_at bytes >>= λ offset. cond (not (eqb (count / 4096 % 8) 0)) None (many (header_at axes peaks) (count % 4096) offset.1 >>= λ heads. Some (make_front count offset.0 heads.0, heads.1))) word_reads
+    (λ count bytes. word_at bytes >>= λ offset. cond (has_bits 28672 count) None (many (header_at axes peaks) (bit_and count 4095) offset.1 >>= λ heads. Some (make_front count offset.0 heads.0, heads.1))) word_reads
     (λ text count stands. then_reads Words (λ offset. HeadsText axes peaks count offset) word_at
-    (λ offset bytes. cond (not (eqb (count / 4096 % 8) 0)) None (many (header_at axes peaks) (count % 4096) bytes >>= λ heads. Some (make_front count offset heads.0, heads.1))) word_reads
-    (λ text offset stands. unless_reads (not (eqb (count / 4096 % 8) 0)) (Made (make_front count offset) (Count (HeaderText axes peaks) (count % 4096)))
-    (λ bytes. many (header_at axes peaks) (count % 4096) bytes >>= λ heads. Some (make_front count offset heads.0, heads.1))
-    (made_reads (make_front count offset) (Count (HeaderText axes peaks) (count % 4096)) (many (header_at axes peaks) (count % 4096)) (many_reads (HeaderText axes peaks) (header_at axes peaks) (header_reads axes peaks) (count % 4096)))))
+    (λ offset bytes. cond (has_bits 28672 count) None (many (header_at axes peaks) (bit_and count 4095) bytes >>= λ heads. Some (make_front count offset heads.0, heads.1))) word_reads
+    (λ text offset stands. unless_reads (has_bits 28672 count) (Made (make_front count offset) (Count (HeaderText axes peaks) (bit_and count 4095)))
+    (λ bytes. many (header_at axes peaks) (bit_and count 4095) bytes >>= λ heads. Some (make_front count offset heads.0, heads.1))
+    (made_reads (make_front count offset) (Count (HeaderText axes peaks) (bit_and count 4095)) (many (header_at axes peaks) (bit_and count 4095)) (many_reads (HeaderText axes peaks) (header_at axes peaks) (header_reads axes peaks) (bit_and count 4095)))))
 
 -- the offset is the length of all this
 abbrev HeadersText : ℕ → List (List ℤ) → List ℕ → Front → Type 0
@@ -90,15 +91,15 @@ of_shared total text (Some points) s = (true, refl, (points, s, refl))
 -- ---- the whole data
 
 abbrev GlyphText : ℕ → ℕ → List (List ℤ) → List ℕ → List TupleVariation → Type 0
-GlyphText axes total peaks = Then (HeadersText axes peaks) (λ front. Then (SharedText total (has_bit 32768 front.count)) (λ shared. PartsText total shared front.heads))
+GlyphText axes total peaks = Then (HeadersText axes peaks) (λ front. Then (SharedText total (has_bits 32768 front.count)) (λ shared. PartsText total shared front.heads))
 
 glyph_reads : (axes total : ℕ) (peaks : List (List ℤ)) → IsReader (GlyphText axes total peaks) (glyph_data_at axes total peaks)
 unfolding glyph_data_at
 glyph_reads axes total peaks =
-    then_reads (HeadersText axes peaks) (λ front. Then (SharedText total (has_bit 32768 front.count)) (λ shared. PartsText total shared front.heads)) (headers_at axes peaks)
-    (λ front bytes. shared_points_at total (has_bit 32768 front.count) bytes >>= λ shared. tuples_at total shared.0 front.heads shared.1) (record { takes = headers_taken axes peaks; again = headers_again axes peaks })
-    (λ text front stands. then_reads (SharedText total (has_bit 32768 front.count)) (λ shared. PartsText total shared front.heads) (shared_points_at total (has_bit 32768 front.count))
-    (λ shared bytes. tuples_at total shared front.heads bytes) (shared_reads total (has_bit 32768 front.count)) (λ text shared stands. parts_read total shared front.heads))
+    then_reads (HeadersText axes peaks) (λ front. Then (SharedText total (has_bits 32768 front.count)) (λ shared. PartsText total shared front.heads)) (headers_at axes peaks)
+    (λ front bytes. shared_points_at total (has_bits 32768 front.count) bytes >>= λ shared. tuples_at total shared.0 front.heads shared.1) (record { takes = headers_taken axes peaks; again = headers_again axes peaks })
+    (λ text front stands. then_reads (SharedText total (has_bits 32768 front.count)) (λ shared. PartsText total shared front.heads) (shared_points_at total (has_bits 32768 front.count))
+    (λ shared bytes. tuples_at total shared front.heads bytes) (shared_reads total (has_bits 32768 front.count)) (λ text shared stands. parts_read total shared front.heads))
 
 glyph_of : (axes total : ℕ) (peaks : List (List ℤ)) (bytes : List ℕ) (tuples : List TupleVariation) → GlyphText axes total peaks bytes tuples → IsGlyphData ReadsPoints ReadsDeltas axes total peaks bytes tuples
 glyph_of axes total peaks bytes tuples s =
@@ -108,13 +109,14 @@ glyph_of axes total peaks bytes tuples s =
     let made : front ≡ make_front count offset heads = fields.next.next.1.2 in
     let count_is : front.count ≡ count = ap (λ (f : Front). f.count) made in
     let heads_are : heads ≡ front.heads = ap (λ (f : Front). f.heads) (sym made) in
-    let shared = shared_of total (has_bit 32768 front.count) s.next.front s.next.first s.next.stands in
+    let shared = shared_of total (has_bits 32768 front.count) s.next.front s.next.first s.next.stands in
     let many = subst (λ (hs : List Head). Many (HeaderText axes peaks) headers hs) heads_are fields.next.next.1.1.0 in
     let are = are_tuples axes total peaks s.next.first front.heads headers s.next.back tuples many s.next.next in
     -- the count word
-    let flag : front.count / 32768 % 2 ≡ bit (has_bit 32768 front.count) = bit_of_test (front.count / 32768 % 2) (omega arith) in
-    let reserved : count / 4096 % 8 ≡ 0 = eqb-true (count / 4096 % 8) 0 (not-false (eqb (count / 4096 % 8) 0) fields.next.next.0) in
-    let number : length tuples ≡ count % 4096 = are.1 ∙ ap length (sym heads_are) ∙ fields.next.next.1.1.1 in
+    let flag : front.count / 32768 % 2 ≡ bit (has_bits 32768 front.count) = digit_is 15 front.count in
+    let low = low_twelve count in
+    let reserved : count / 4096 % 8 ≡ 0 = no_middle_bits count fields.next.next.0 in
+    let number : length tuples ≡ bit_and count 4095 = are.1 ∙ ap length (sym heads_are) ∙ fields.next.next.1.1.1 in
     let count_spelled : count ≡ shared_bits s.next.first + length tuples = omega (arith, fields.stands.1, shared.1) in
     -- the offset word
     let words : s.front ≡ word count ++ (word offset ++ headers) =
@@ -140,9 +142,11 @@ of_glyph axes total peaks bytes tuples s =
     let shared = of_shared total s.shared_bytes s.shared_points s.shared_list in
     let count = shared_bits s.shared_points + length tuples in let offset = 4 + length s.headers in
     let small = bit_below shared.0 in
-    let flag : has_bit 32768 count ≡ shared.0 = test_of_bit (count / 32768 % 2) shared.0 (omega (arith, s.few, shared.1)) in
-    let number : length heads.0 ≡ count % 4096 = omega (arith, s.few, shared.1, heads.3) in
-    let reserved : not (eqb (count / 4096 % 8) 0) ≡ false = not_from_true (eqb (count / 4096 % 8) 0) (eq-eqb (count / 4096 % 8) 0 (omega (arith, s.few, shared.1))) in
+    let digit : count / 32768 % 2 ≡ bit shared.0 = omega (arith, s.few, shared.1) in
+    let flag : has_bits 32768 count ≡ shared.0 = bits_are 15 count shared.0 digit in
+    let low = low_twelve count in
+    let number : length heads.0 ≡ bit_and count 4095 = omega (arith, s.few, shared.1, heads.3) in
+    let reserved : has_bits 28672 count ≡ false = middle_bits_are_none count (omega (arith, s.few, shared.1)) in
     let place : offset ≡ length (word count ++ (word offset ++ s.headers)) = omega arith in
     record {
       first = make_front count offset heads.0;

@@ -1,5 +1,5 @@
 -- The reader of headers reads what headers are.
-use Rattle.std.proofs.Common.{◌≡◌, ℕ, ℤ, zero, suc, ◌+◌, ◌*◌, ◌/◌, ◌%◌, ◌<◌, ◌^◌, ◌⊎◌, inl, inr, Bool, true, false, cond, eqb, List, [], ◌∷◌, ◌++◌, length, map, Option, Some, None, refl, sym, ap, subst, ◌∙◌, arith, FitsSigned, w16}
+use Rattle.std.proofs.Common.{◌≡◌, ℕ, ℤ, ◌+◌, ◌*◌, ◌/◌, ◌%◌, ◌<◌, ◌^◌, ◌⊎◌, inl, inr, Bool, true, false, cond, eqb, List, [], ◌∷◌, ◌++◌, length, map, Option, Some, None, refl, sym, ap, subst, ◌∙◌, arith, bit_and, FitsSigned, w16}
 use Rattle.std.specs.Prelude.{slice_get}
 use Rattle.std.specs.List.{flat_map, All, list_all}
 use Rattle.std.proofs.lemmas.Bool.{eqb-true, eq-eqb, and_parts, and_from}
@@ -11,56 +11,40 @@ use Rattle.variation_rules.specs.declared.region.Triple.{Triple}
 use Rattle.variation_rules.specs.Fields.{word, signed_word}
 use Rattle.variation_rules.specs.TupleVariations.{Peak, embedded, shared, Ends, Header, peak_bits, intermediate_bits, private_bits, tuple_index, peak_bytes, intermediate_bytes, header_bytes, IsTuple, PeaksAt, plain_triple, triples, region_of, AreEnds, HasRegion}
 use Rattle.variation_rules.specs.Decoding.{◌>>=◌, word_at, signed_word_at}
-use Rattle.variation_rules.specs.DecodingTuples.{has_bit, coordinates_at, is_coordinate, is_tuple, shared_peak, peak_at, region_at, header_at}
+use Rattle.variation_rules.specs.DecodingTuples.{has_bits, coordinates_at, is_coordinate, is_tuple, shared_peak, peak_at, region_at, header_at}
+use Rattle.variation_rules.proofs.DecodingBits.{bit, bit_below, low_twelve, no_bits, none_of_no_bits, digit_is, bits_are}
 use Rattle.variation_rules.proofs.DecodingSteps.{bind_some, when_some}
-use Rattle.variation_rules.proofs.DecodingReaders.{IsReader, Then, Is, Made, Many, Count, then_reads, done_reads, made_reads, unless_reads, when_reads, either_reads, given_reads, same_reads, many_reads}
+use Rattle.variation_rules.proofs.DecodingReaders.{IsReader, Then, Is, Made, Many, Count, then_reads, done_reads, made_reads, unless_reads, either_reads, given_reads, same_reads, many_reads}
 use Rattle.variation_rules.proofs.DecodingFields.{Spells, word_reads, signed_word_reads, spelled_many, many_spelled}
 
 -- ---- the bits of the tupleIndex
 
-abbrev pub bit : Bool → ℕ
-bit true = 1
-bit false = 0
-
-pub bit_below : (b : Bool) → bit b < 2
-bit_below true = omega arith
-bit_below false = omega arith
-
--- a number below 2 is the bit of its test
-pub bit_of_test : (m : ℕ) → m < 2 → m ≡ bit (eqb m 1)
-bit_of_test zero below = refl
-bit_of_test (suc zero) below = refl
-bit_of_test (suc (suc m)) below = absurd (omega arith)
-
-pub test_of_bit : (m : ℕ) (b : Bool) → m ≡ bit b → eqb m 1 ≡ b
-test_of_bit m true e = rw e refl
-test_of_bit m false e = rw e refl
-
 -- a tupleIndex without the reserved bit is the sum of its parts
-index_parts : (n : ℕ) → n < 2 ^ 16 → has_bit 4096 n ≡ false → n ≡ 32768 * bit (has_bit 32768 n) + n % 4096 + (16384 * bit (has_bit 16384 n) + 8192 * bit (has_bit 8192 n))
+index_parts : (n : ℕ) → n < 2 ^ 16 → has_bits 4096 n ≡ false → n ≡ 32768 * bit (has_bits 32768 n) + bit_and n 4095 + (16384 * bit (has_bits 16384 n) + 8192 * bit (has_bits 8192 n))
 index_parts n below reserved =
-    let e = bit_of_test (n / 32768 % 2) (omega arith) in
-    let i = bit_of_test (n / 16384 % 2) (omega arith) in
-    let p = bit_of_test (n / 8192 % 2) (omega arith) in
-    let r : n / 4096 % 2 ≡ 0 = bit_of_test (n / 4096 % 2) (omega arith) ∙ ap bit reserved in
+    let e : n / 32768 % 2 ≡ bit (has_bits 32768 n) = digit_is 15 n in
+    let i : n / 16384 % 2 ≡ bit (has_bits 16384 n) = digit_is 14 n in
+    let p : n / 8192 % 2 ≡ bit (has_bits 8192 n) = digit_is 13 n in
+    let r : n / 4096 % 2 ≡ 0 = digit_is 12 n ∙ ap bit reserved in
+    let low = low_twelve n in
     omega arith
 
 -- and the parts are found in the sum
 module _ (e i p : Bool) (low n : ℕ) (small : low < 4096) (sum : n ≡ 32768 * bit e + low + (16384 * bit i + 8192 * bit p)) where
-  embedded_bit : has_bit 32768 n ≡ e
-  embedded_bit = test_of_bit (n / 32768 % 2) e (omega (arith, bit_below e, bit_below i, bit_below p))
+  embedded_bit : has_bits 32768 n ≡ e
+  embedded_bit = let digit : n / 32768 % 2 ≡ bit e = omega (arith, bit_below e, bit_below i, bit_below p) in bits_are 15 n e digit
 
-  intermediate_bit : has_bit 16384 n ≡ i
-  intermediate_bit = test_of_bit (n / 16384 % 2) i (omega (arith, bit_below e, bit_below i, bit_below p))
+  intermediate_bit : has_bits 16384 n ≡ i
+  intermediate_bit = let digit : n / 16384 % 2 ≡ bit i = omega (arith, bit_below e, bit_below i, bit_below p) in bits_are 14 n i digit
 
-  private_bit : has_bit 8192 n ≡ p
-  private_bit = test_of_bit (n / 8192 % 2) p (omega (arith, bit_below e, bit_below i, bit_below p))
+  private_bit : has_bits 8192 n ≡ p
+  private_bit = let digit : n / 8192 % 2 ≡ bit p = omega (arith, bit_below e, bit_below i, bit_below p) in bits_are 13 n p digit
 
-  reserved_bit : has_bit 4096 n ≡ false
-  reserved_bit = test_of_bit (n / 4096 % 2) false (omega (arith, bit_below e, bit_below i, bit_below p))
+  reserved_bit : has_bits 4096 n ≡ false
+  reserved_bit = let digit : n / 4096 % 2 ≡ 0 = omega (arith, bit_below e, bit_below i, bit_below p) in bits_are 12 n false digit
 
-  low_bits : n % 4096 ≡ low
-  low_bits = omega (arith, bit_below e, bit_below i, bit_below p)
+  low_bits : bit_and n 4095 ≡ low
+  low_bits = let low_is : n % 4096 ≡ low = omega (arith, bit_below e, bit_below i, bit_below p) in low_twelve n ∙ low_is
 
 -- ---- coordinates
 
@@ -119,30 +103,30 @@ shared_peak_again axes peaks index peak e s = rw (e, test_of_tuple axes peak s) 
 -- the peak in the header, or the shared one of the index
 abbrev pub PeakText : ℕ → List (List ℤ) → ℕ → List ℕ → List ℤ → Type 0
 PeakText axes peaks index text peak =
-    ((has_bit 32768 index ≡ true) × ((eqb (index % 4096) 0 ≡ true) × CoordinatesText axes text peak))
-    ⊎ ((has_bit 32768 index ≡ false) × ((found : List ℤ) × (shared_peak axes peaks (index % 4096) ≡ Some found) × Is found text peak))
+    ((has_bits 32768 index ≡ true) × ((has_bits 4095 index ≡ false) × CoordinatesText axes text peak))
+    ⊎ ((has_bits 32768 index ≡ false) × ((found : List ℤ) × (shared_peak axes peaks (bit_and index 4095) ≡ Some found) × Is found text peak))
 
 peak_reads : (axes : ℕ) (peaks : List (List ℤ)) (index : ℕ) → IsReader (PeakText axes peaks index) (peak_at axes peaks index)
 unfolding peak_at
 peak_reads axes peaks index =
-    either_reads (has_bit 32768 index) (λ text peak. (eqb (index % 4096) 0 ≡ true) × CoordinatesText axes text peak) (λ text peak. (found : List ℤ) × (shared_peak axes peaks (index % 4096) ≡ Some found) × Is found text peak)
-    (λ bytes. cond (eqb (index % 4096) 0) (coordinates_at axes bytes) None) (λ bytes. shared_peak axes peaks (index % 4096) >>= λ peak. Some (peak, bytes))
-    (when_reads (eqb (index % 4096) 0) (CoordinatesText axes) (coordinates_at axes) (coordinates_read axes))
-    (given_reads (shared_peak axes peaks (index % 4096)) Is (λ peak bytes. Some (peak, bytes)) (λ peak. done_reads peak))
+    either_reads (has_bits 32768 index) (λ text peak. (has_bits 4095 index ≡ false) × CoordinatesText axes text peak) (λ text peak. (found : List ℤ) × (shared_peak axes peaks (bit_and index 4095) ≡ Some found) × Is found text peak)
+    (λ bytes. cond (has_bits 4095 index) None (coordinates_at axes bytes)) (λ bytes. shared_peak axes peaks (bit_and index 4095) >>= λ peak. Some (peak, bytes))
+    (unless_reads (has_bits 4095 index) (CoordinatesText axes) (coordinates_at axes) (coordinates_read axes))
+    (given_reads (shared_peak axes peaks (bit_and index 4095)) Is (λ peak bytes. Some (peak, bytes)) (λ peak. done_reads peak))
 
 -- a peak of the grammar with these bits
 abbrev IsPeak : ℕ → List (List ℤ) → ℕ → List ℕ → List ℤ → Type 0
-IsPeak axes peaks index text peak = (where_it_is : Peak) × PeaksAt axes peaks where_it_is peak × (text ≡ peak_bytes where_it_is) × (peak_bits where_it_is ≡ 32768 * bit (has_bit 32768 index) + index % 4096)
+IsPeak axes peaks index text peak = (where_it_is : Peak) × PeaksAt axes peaks where_it_is peak × (text ≡ peak_bytes where_it_is) × (peak_bits where_it_is ≡ 32768 * bit (has_bits 32768 index) + bit_and index 4095)
 
 peak_of : (axes : ℕ) (peaks : List (List ℤ)) (index : ℕ) (text : List ℕ) (peak : List ℤ) → PeakText axes peaks index text peak → IsPeak axes peaks index text peak
 peak_of axes peaks index text peak s =
     elim s [
-      | inl inside ↦ (embedded peak, (refl, inside.1.1.1), inside.1.1.0, omega (arith, ap bit inside.0, eqb-true (index % 4096) 0 inside.1.0))
+      | inl inside ↦ (embedded peak, (refl, inside.1.1.1), inside.1.1.0, omega (arith, ap bit inside.0, none_of_no_bits 4095 index inside.1.0))
       | inr outside ↦
-          let found = shared_peak_is axes peaks (index % 4096) outside.1.0 outside.1.1 in
+          let found = shared_peak_is axes peaks (bit_and index 4095) outside.1.0 outside.1.1 in
           let is = sym outside.1.2.1 in (
-            shared (index % 4096),
-            (omega arith, subst (λ (p : List ℤ). slice_get peaks (index % 4096) ≡ Some p) is found.0, subst (λ (p : List ℤ). IsTuple axes p) is found.1),
+            shared (bit_and index 4095),
+            (omega (arith, low_twelve index), subst (λ (p : List ℤ). slice_get peaks (bit_and index 4095) ≡ Some p) is found.0, subst (λ (p : List ℤ). IsTuple axes p) is found.1),
             outside.1.2.0,
             omega (arith, ap bit outside.0),
           )
@@ -152,13 +136,13 @@ peak_of axes peaks index text peak s =
 abbrev PeakIn : ℕ → List (List ℤ) → Peak → List ℤ → Type 0
 PeakIn axes peaks where_it_is peak =
     (e : Bool) × (low : ℕ) × (low < 4096) × (peak_bits where_it_is ≡ 32768 * bit e + low)
-    × ((n : ℕ) → has_bit 32768 n ≡ e → n % 4096 ≡ low → PeakText axes peaks n (peak_bytes where_it_is) peak)
+    × ((n : ℕ) → has_bits 32768 n ≡ e → bit_and n 4095 ≡ low → PeakText axes peaks n (peak_bytes where_it_is) peak)
 
 text_of_peak : (axes : ℕ) (peaks : List (List ℤ)) (where_it_is : Peak) (peak : List ℤ) → PeaksAt axes peaks where_it_is peak → PeakIn axes peaks where_it_is peak
 text_of_peak axes peaks (embedded coordinates) peak at =
-    (true, 0, omega arith, refl, λ n inside low. inl (inside, (eq-eqb (n % 4096) 0 low, (ap (λ (cs : List ℤ). flat_map signed_word cs) at.0, at.1))))
+    (true, 0, omega arith, refl, λ n inside low. inl (inside, (no_bits 4095 n low, (ap (λ (cs : List ℤ). flat_map signed_word cs) at.0, at.1))))
 text_of_peak axes peaks (shared index) peak at =
-    (false, index, at.0, omega arith, λ n outside low. inr (outside, (peak, shared_peak_again axes peaks (n % 4096) peak (ap (slice_get peaks) low ∙ at.1) at.2, (refl, refl))))
+    (false, index, at.0, omega arith, λ n outside low. inr (outside, (peak, shared_peak_again axes peaks (bit_and n 4095) peak (ap (slice_get peaks) low ∙ at.1) at.2, (refl, refl))))
 
 -- ---- the region
 
@@ -214,11 +198,11 @@ abbrev Words : List ℕ → ℕ → Type 0
 Words = Spells word (λ n. n < 2 ^ 16)
 
 abbrev make_head : ℕ → ℕ → List Triple → Head
-make_head size index region = record { size = size; region = region; private = has_bit 8192 index }
+make_head size index region = record { size = size; region = region; private = has_bits 8192 index }
 
 abbrev IndexedText : ℕ → List (List ℤ) → ℕ → ℕ → List ℕ → Head → Type 0
 IndexedText axes peaks size index text head =
-    (has_bit 4096 index ≡ false) × Then (PeakText axes peaks index) (λ peak. Made (make_head size index) (RegionText axes (has_bit 16384 index) peak)) text head
+    (has_bits 4096 index ≡ false) × Then (PeakText axes peaks index) (λ peak. Made (make_head size index) (RegionText axes (has_bits 16384 index) peak)) text head
 
 abbrev FieldsText : ℕ → List (List ℤ) → List ℕ → Head → Type 0
 FieldsText axes peaks = Then Words (λ size. Then Words (λ index. IndexedText axes peaks size index))
@@ -231,9 +215,9 @@ header_of : (axes : ℕ) (peaks : List (List ℤ)) (text : List ℕ) (head : Hea
 header_of axes peaks text head s =
     let size = s.first in let n = s.next.first in let inner = s.next.next.1 in
     let peak = peak_of axes peaks n inner.front inner.first inner.stands in
-    let region = region_is_of axes (has_bit 16384 n) inner.first inner.back inner.next.0 inner.next.1 in
-    let header : Header = record { peak = peak.0; intermediate = region.0; private = has_bit 8192 n } in
-    let index : n ≡ tuple_index header = omega (arith, index_parts n s.next.stands.1 s.next.next.0, peak.3, region.4, private_is (has_bit 8192 n)) in
+    let region = region_is_of axes (has_bits 16384 n) inner.first inner.back inner.next.0 inner.next.1 in
+    let header : Header = record { peak = peak.0; intermediate = region.0; private = has_bits 8192 n } in
+    let index : n ≡ tuple_index header = omega (arith, index_parts n s.next.stands.1 s.next.next.0, peak.3, region.4, private_is (has_bits 8192 n)) in
     let parts : inner.front ++ inner.back ≡ peak_bytes peak.0 ++ intermediate_bytes region.0 =
     ap (λ (t : List ℕ). t ++ inner.back) peak.2 ∙ ap (λ (t : List ℕ). peak_bytes peak.0 ++ t) region.2 in
     let rest : s.back ≡ word (tuple_index header) ++ (peak_bytes peak.0 ++ intermediate_bytes region.0) =
@@ -251,7 +235,7 @@ of_header axes peaks text head s =
     let below : n < 2 ^ 16 = omega (arith, inside.2, bit_below inside.0, bit_below between.0, bit_below header.private) in
     let is_intermediate = intermediate_bit inside.0 between.0 header.private inside.1 n inside.2 sum in
     let is_private = private_bit inside.0 between.0 header.private inside.1 n inside.2 sum in
-    let region : RegionText axes (has_bit 16384 n) peak (intermediate_bytes header.intermediate) head.region =
+    let region : RegionText axes (has_bits 16384 n) peak (intermediate_bytes header.intermediate) head.region =
     subst (λ (b : Bool). RegionText axes b peak (intermediate_bytes header.intermediate) head.region) (sym is_intermediate)
     (subst (λ (r : List Triple). RegionText axes between.0 peak (intermediate_bytes header.intermediate) r) (sym s.1.region_is) between.2) in
     let made : head ≡ make_head head.size n head.region = ap (λ (b : Bool). record head { private = b }) (sym (is_private ∙ s.3)) in
@@ -286,11 +270,11 @@ unfolding header_at
 header_reads axes peaks =
     same_reads (FieldsText axes peaks) (HeaderText axes peaks) (header_at axes peaks) (header_of axes peaks) (of_header axes peaks)
     (then_reads Words (λ size. Then Words (λ index. IndexedText axes peaks size index)) word_at
-    (λ size bytes. word_at bytes >>= λ index. cond (has_bit 4096 index.0) None (peak_at axes peaks index.0 index.1 >>= λ peak. region_at axes (has_bit 16384 index.0) peak.0 peak.1 >>= λ region. Some (make_head size index.0 region.0, region.1))) word_reads
+    (λ size bytes. word_at bytes >>= λ index. cond (has_bits 4096 index.0) None (peak_at axes peaks index.0 index.1 >>= λ peak. region_at axes (has_bits 16384 index.0) peak.0 peak.1 >>= λ region. Some (make_head size index.0 region.0, region.1))) word_reads
     (λ front size stands. then_reads Words (λ index. IndexedText axes peaks size index) word_at
-    (λ index bytes. cond (has_bit 4096 index) None (peak_at axes peaks index bytes >>= λ peak. region_at axes (has_bit 16384 index) peak.0 peak.1 >>= λ region. Some (make_head size index region.0, region.1))) word_reads
-    (λ front index stands. unless_reads (has_bit 4096 index) (Then (PeakText axes peaks index) (λ peak. Made (make_head size index) (RegionText axes (has_bit 16384 index) peak)))
-    (λ bytes. peak_at axes peaks index bytes >>= λ peak. region_at axes (has_bit 16384 index) peak.0 peak.1 >>= λ region. Some (make_head size index region.0, region.1))
-    (then_reads (PeakText axes peaks index) (λ peak. Made (make_head size index) (RegionText axes (has_bit 16384 index) peak)) (peak_at axes peaks index)
-    (λ peak bytes. region_at axes (has_bit 16384 index) peak bytes >>= λ region. Some (make_head size index region.0, region.1)) (peak_reads axes peaks index)
-    (λ front peak stands. made_reads (make_head size index) (RegionText axes (has_bit 16384 index) peak) (region_at axes (has_bit 16384 index) peak) (region_reads axes (has_bit 16384 index) peak))))))
+    (λ index bytes. cond (has_bits 4096 index) None (peak_at axes peaks index bytes >>= λ peak. region_at axes (has_bits 16384 index) peak.0 peak.1 >>= λ region. Some (make_head size index region.0, region.1))) word_reads
+    (λ front index stands. unless_reads (has_bits 4096 index) (Then (PeakText axes peaks index) (λ peak. Made (make_head size index) (RegionText axes (has_bits 16384 index) peak)))
+    (λ bytes. peak_at axes peaks index bytes >>= λ peak. region_at axes (has_bits 16384 index) peak.0 peak.1 >>= λ region. Some (make_head size index region.0, region.1))
+    (then_reads (PeakText axes peaks index) (λ peak. Made (make_head size index) (RegionText axes (has_bits 16384 index) peak)) (peak_at axes peaks index)
+    (λ peak bytes. region_at axes (has_bits 16384 index) peak bytes >>= λ region. Some (make_head size index region.0, region.1)) (peak_reads axes peaks index)
+    (λ front peak stands. made_reads (make_head size index) (RegionText axes (has_bits 16384 index) peak) (region_at axes (has_bits 16384 index) peak) (region_reads axes (has_bits 16384 index) peak))))))

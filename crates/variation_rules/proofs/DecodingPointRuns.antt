@@ -1,5 +1,6 @@
 -- The reader of packed points reads what packed points are.
-use Rattle.std.proofs.Common.{◌≡◌, ℕ, zero, suc, ◌+◌, ◌-◌, ◌*◌, ◌/◌, ◌%◌, ◌<◌, ◌≤◌, ◌^◌, ◌⊎◌, inl, inr, true, false, cond, ltb, leb, eqb, ◌||◌, List, [], ◌∷◌, ◌++◌, length, Some, None, refl, sym, ap, subst, ◌∙◌, arith}
+use Rattle.std.proofs.Common.{◌≡◌, ℕ, zero, suc, ◌+◌, ◌-◌, ◌/◌, ◌%◌, ◌<◌, ◌≤◌, ◌^◌, ◌⊎◌, inl, inr, true, false, cond, ltb, leb, eqb, ◌||◌, List, [], ◌∷◌, ◌++◌, length, Some, None, refl, sym, ap, subst, ◌∙◌, arith}
+use Rattle.std.specs.Int.{w16, from_be_bytes}
 use Rattle.std.specs.List.{flat_map, All}
 use Rattle.std.proofs.lemmas.List.Elements.{All-nil, All-cons, All-head, All-tail}
 use Rattle.std.proofs.lemmas.Bool.{ltb-true, ltb-false, leb-false, lt-ltb, le-ltb, lt-leb, ne_eqb, eqb-true, or_parts, or_from}
@@ -160,11 +161,14 @@ differences_read wanted =
 
 -- ---- the count
 
+abbrev two_bytes : ℕ → ℕ → ℕ
+two_bytes first second = from_be_bytes w16 ((first - 128) ∷ second ∷ [])
+
 -- one byte below 128, or another behind it
 abbrev CountFrom : ℕ → List ℕ → ℕ → Type 0
 CountFrom first text count =
     ((ltb first 128 ≡ true) × Is first text count)
-    ⊎ ((ltb first 128 ≡ false) × Made (λ second. 256 * (first - 128) + second) (Spells one_byte (λ n. n < 2 ^ 8)) text count)
+    ⊎ ((ltb first 128 ≡ false) × Made (two_bytes first) (Spells one_byte (λ n. n < 2 ^ 8)) text count)
 
 abbrev CountText : List ℕ → ℕ → Type 0
 CountText = Then (Spells one_byte (λ n. n < 2 ^ 8)) CountFrom
@@ -180,7 +184,7 @@ count_of text count s =
           let high = ltb-false s.first 128 two.0 in
           let second : ℕ = two.1.0 in
           let below : second < 2 ^ 8 = two.1.1.1 in
-          let is : count ≡ 256 * (s.first - 128) + second = two.1.2 in
+          let is : count ≡ two_bytes s.first second = two.1.2 in
           let first_is : s.first ≡ 128 + count / 256 = omega (arith, s.stands.1) in
           let second_is : second ≡ count % 256 = omega (arith, s.stands.1) in
           let same : s.first ∷ s.back ≡ (128 + count / 256) ∷ count % 256 ∷ [] =
@@ -193,7 +197,7 @@ of_count text count s =
     elim s [
       | inl one ↦ record { first = count; front = count ∷ []; back = []; split = one.1; stands = (refl, omega (arith, one.0)); next = inl (lt-ltb count 128 one.0, (refl, refl)) }
       | inr two ↦
-          let is : count ≡ 256 * (128 + count / 256 - 128) + count % 256 = omega arith in
+          let is : count ≡ two_bytes (128 + count / 256) (count % 256) = omega arith in
           record {
             first = 128 + count / 256;
             front = (128 + count / 256) ∷ [];
@@ -208,10 +212,10 @@ count_reads : IsReader (λ text count. IsCount count text) count_at
 unfolding count_at
 count_reads =
     same_reads CountText (λ text count. IsCount count text) count_at count_of of_count
-    (then_reads (Spells one_byte (λ n. n < 2 ^ 8)) CountFrom byte_at (λ first bytes. cond (ltb first 128) (Some (first, bytes)) (byte_at bytes >>= λ second. Some (256 * (first - 128) + second.0, second.1))) byte_reads
-    (λ front first stands. either_reads (ltb first 128) (Is first) (Made (λ second. 256 * (first - 128) + second) (Spells one_byte (λ n. n < 2 ^ 8)))
-    (λ bytes. Some (first, bytes)) (λ bytes. byte_at bytes >>= λ second. Some (256 * (first - 128) + second.0, second.1))
-    (done_reads first) (made_reads (λ second. 256 * (first - 128) + second) (Spells one_byte (λ n. n < 2 ^ 8)) byte_at byte_reads)))
+    (then_reads (Spells one_byte (λ n. n < 2 ^ 8)) CountFrom byte_at (λ first bytes. cond (ltb first 128) (Some (first, bytes)) (byte_at bytes >>= λ second. Some (two_bytes first second.0, second.1))) byte_reads
+    (λ front first stands. either_reads (ltb first 128) (Is first) (Made (two_bytes first) (Spells one_byte (λ n. n < 2 ^ 8)))
+    (λ bytes. Some (first, bytes)) (λ bytes. byte_at bytes >>= λ second. Some (two_bytes first second.0, second.1))
+    (done_reads first) (made_reads (two_bytes first) (Spells one_byte (λ n. n < 2 ^ 8)) byte_at byte_reads)))
 
 -- ---- the points
 

@@ -6,7 +6,7 @@ use Rattle.std.proofs.lemmas.List.{append-nil, nil_from_length}
 use Rattle.std.proofs.lemmas.Option.{same_Some}
 use Rattle.std.specs.List.{flat_map}
 use Rattle.variation_rules.specs.Decoding.{◌>>=◌, many, filled_by}
-use Rattle.variation_rules.proofs.DecodingSteps.{bind_some, unless_some, when_some}
+use Rattle.variation_rules.proofs.DecodingSteps.{bind_some, unless_some}
 
 -- each is a byte
 abbrev pub IsBytes : List ℕ → Type 0
@@ -110,17 +110,6 @@ pub unless_reads : {A : Type 0} (b : Bool) (Next : List ℕ → A → Type 0) (n
 unless_reads b Next next reads = record {
   takes = λ bytes read fits e.
       let room = unless_some b (next bytes) read e in
-      let taken = reads.takes bytes read fits room.1 in
-      record { text = taken.text; parts = taken.parts; stands = (room.0, taken.stands) };
-  again = λ text value rest s. rw s.0 (reads.again text value rest s.1);
-}
-
--- a test that has to hold
-pub when_reads : {A : Type 0} (b : Bool) (Next : List ℕ → A → Type 0) (next : List ℕ → Option (A × List ℕ))
-    → IsReader Next next → IsReader (λ text value. (b ≡ true) × Next text value) (λ bytes. cond b (next bytes) None)
-when_reads b Next next reads = record {
-  takes = λ bytes read fits e.
-      let room = when_some b (next bytes) read e in
       let taken = reads.takes bytes read fits room.1 in
       record { text = taken.text; parts = taken.parts; stands = (room.0, taken.stands) };
   again = λ text value rest s. rw s.0 (reads.again text value rest s.1);

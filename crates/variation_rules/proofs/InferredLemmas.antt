@@ -5,7 +5,7 @@ use Rattle.std.proofs.Common.{◌≡◌, ◌≢◌, ◌⊎◌, inl, inr, ℕ, �
 use Rattle.std.proofs.lemmas.Int.{ints, by_lt_z, quot-rem, rem_below}
 use Rattle.std.proofs.Math.Nat.{mul-le-mul_right, eq_of_mul-eq-mul_right, lt_of_mul-lt-mul_right}
 use Rattle.std.specs.Int.RustNames.{int_div, int_rem, unsigned_abs}
-use borrow.Author.Differences.{up, down, same_in, below_in, at_most_in}
+use borrow.Author.Differences.{up, down, same_in, at_most_in}
 use Rattle.variation_rules.specs.FontUnits.{IsFWord}
 use Rattle.variation_rules.specs.InferredDelta.{OnLine, Between}
 

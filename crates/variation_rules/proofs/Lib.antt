@@ -1,6 +1,7 @@
 pub mod DrawingLemmas
 pub mod InferredLemmas
 pub mod FillingLemmas
+pub mod DecodingBits
 pub mod DecodingSteps
 pub mod DecodingLoops
 pub mod DecodingRising

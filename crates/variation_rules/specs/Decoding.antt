@@ -1,5 +1,6 @@
--- Reading from left to right: a reader gives the value at the front of the bytes and the bytes behind it, or
--- None where no such value stands there.
+-- Reading from left to right, as the plain reader does it: a reader gives the value at the front of the bytes
+-- and the bytes behind it, or None where no such value stands there. What bytes mean is not said here but in
+-- PackedDeltas, PackedPoints and TupleVariations; the proofs show that reading finds just that.
 use Rattle.std.specs.Prelude.{◌≡◌, ℕ, zero, suc, ℤ, ◌-◌, List, [], ◌∷◌, ◌++◌, length, Option, Some, None, Result, Ok, Err}
 use Rattle.std.specs.Int.{w8, w16, from_be_bytes, cast_signed}
 use Rattle.variation_rules.specs.declared.refusal.Refusal.{Refusal}

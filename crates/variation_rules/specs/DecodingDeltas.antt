@@ -7,9 +7,9 @@ use Rattle.variation_rules.specs.declared.runs.DeltaClass.TheVariants.{Zeros, By
 -- the class of a run and the number of its values, by the control byte; no run has both high bits set
 abbrev pub delta_control : ℕ → Option (DeltaClass × ℕ)
 delta_control byte =
-    if nat_lt byte 64 then Some (Bytes, byte + 1)
-    else (if nat_lt byte 128 then Some (Words, byte - 64 + 1)
-    else (if nat_lt byte 192 then Some (Zeros, byte - 128 + 1)
+    if nat_lt byte 0x40 then Some (Bytes, byte + 1)
+    else (if nat_lt byte 0x80 then Some (Words, byte - 0x40 + 1)
+    else (if nat_lt byte 0xC0 then Some (Zeros, byte - 0x80 + 1)
     else None))
 
 abbrev pub delta_at : DeltaClass → List ℕ → Option (ℤ × List ℕ)

@@ -1,5 +1,6 @@
 -- Reading packed point numbers, for a glyph of so many points.
-use Rattle.std.specs.Prelude.{ℕ, ◌+◌, ◌-◌, ◌*◌, List, [], ◌∷◌, Option, Some, None, if◌then◌else◌, nat_lt, nat_le, nat_eq, ◌||◌}
+use Rattle.std.specs.Prelude.{ℕ, ◌+◌, ◌-◌, List, [], ◌∷◌, Option, Some, None, if◌then◌else◌, nat_lt, nat_le, nat_eq, ◌||◌}
+use Rattle.std.specs.Int.{w16, from_be_bytes}
 use Rattle.variation_rules.specs.Decoding.{◌>>=◌, many, filled, byte_at, word_at}
 use Rattle.variation_rules.specs.PackedPoints.{count_from}
 use Rattle.variation_rules.specs.declared.runs.PointClass.{PointClass}
@@ -7,7 +8,7 @@ use Rattle.variation_rules.specs.declared.runs.PointClass.TheVariants.{Bytes, Wo
 
 -- the class of a run and the number of its differences, by the control byte
 abbrev pub point_control : ℕ → PointClass × ℕ
-point_control byte = if nat_lt byte 128 then (Bytes, byte + 1) else (Words, byte - 128 + 1)
+point_control byte = if nat_lt byte 0x80 then (Bytes, byte + 1) else (Words, byte - 0x80 + 1)
 
 abbrev pub difference_at : PointClass → List ℕ → Option (ℕ × List ℕ)
 difference_at Bytes bytes = byte_at bytes
@@ -27,8 +28,8 @@ differences_at wanted bytes = filled difference_run_at wanted bytes
 unfoldable pub count_at : List ℕ → Option (ℕ × List ℕ)
 count_at bytes = do
   first ← byte_at bytes
-  if nat_lt first.0 128 then Some first
-      else (byte_at first.1 >>= λ second. Some (256 * (first.0 - 128) + second.0, second.1))
+  if nat_lt first.0 0x80 then Some first
+      else (byte_at first.1 >>= λ second. Some (from_be_bytes w16 ((first.0 - 0x80) ∷ second.0 ∷ []), second.1))
 
 -- the numbers that the differences lead to from this one, if they rise, from the low one on and below the end
 unfoldable pub rising : ℕ → ℕ → ℕ → List ℕ → Option (List ℕ)

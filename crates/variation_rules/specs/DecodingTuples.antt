@@ -1,5 +1,5 @@
 -- Reading the headers of tuple variations and their packed parts.
-use Rattle.std.specs.Prelude.{ℕ, ℤ, pos, negsuc, ◌+◌, ◌/◌, ◌%◌, List, [], ◌∷◌, length, map, take, drop, Option, Some, None, Bool, true, false, if◌then◌else◌, nat_lt, nat_eq, int_le, not, ◌&&◌, slice_get}
+use Rattle.std.specs.Prelude.{ℕ, ℤ, pos, negsuc, ◌+◌, bit_and, List, [], ◌∷◌, length, map, take, drop, Option, Some, None, Bool, true, false, if◌then◌else◌, nat_lt, nat_eq, int_le, not, ◌&&◌, slice_get}
 use Rattle.std.specs.List.{list_all}
 use Rattle.fixpoint.specs.declared.plane.Pair.{Pair}
 use Rattle.variation_rules.specs.Decoding.{◌>>=◌, many, word_at, signed_word_at}
@@ -11,9 +11,9 @@ use Rattle.variation_rules.specs.declared.reader.Front.{Front}
 use Rattle.variation_rules.specs.declared.region.Triple.{Triple}
 use Rattle.variation_rules.specs.declared.tuple.TupleVariation.{TupleVariation}
 
--- a word has the bit of this value set
-abbrev pub has_bit : ℕ → ℕ → Bool
-has_bit bit number = nat_eq (number / bit % 2) 1
+-- some bit of the mask is set in the word
+abbrev pub has_bits : ℕ → ℕ → Bool
+has_bits mask number = not (nat_eq (bit_and number mask) 0)
 
 -- one coordinate an axis
 abbrev pub coordinates_at : ℕ → List ℕ → Option (List ℤ × List ℕ)
@@ -32,8 +32,8 @@ shared_peak axes peaks index = slice_get peaks index >>= λ peak. if is_tuple ax
 -- the peak in the header or in the list of shared peaks; beside one in the header the index is 0
 unfoldable pub peak_at : ℕ → List (List ℤ) → ℕ → List ℕ → Option (List ℤ × List ℕ)
 peak_at axes peaks index bytes =
-    if has_bit 32768 index then (if nat_eq (index % 4096) 0 then coordinates_at axes bytes else None)
-    else (shared_peak axes peaks (index % 4096) >>= λ peak. Some (peak, bytes))
+    if has_bits 0x8000 index then (if has_bits 0x0FFF index then None else coordinates_at axes bytes)
+    else (shared_peak axes peaks (bit_and index 0x0FFF) >>= λ peak. Some (peak, bytes))
 
 -- the region from its peak, with the start and the end where it is intermediate
 unfoldable pub region_at : ℕ → Bool → List ℤ → List ℕ → Option (List Triple × List ℕ)
@@ -48,10 +48,10 @@ unfoldable pub header_at : ℕ → List (List ℤ) → List ℕ → Option (Head
 header_at axes peaks bytes = do
   size ← word_at bytes
   index ← word_at size.1
-  if has_bit 4096 index.0 then None else (do
+  if has_bits 0x1000 index.0 then None else (do
     peak ← peak_at axes peaks index.0 index.1
-    region ← region_at axes (has_bit 16384 index.0) peak.0 peak.1
-    Some (record { size = size.0; region = region.0; private = has_bit 8192 index.0 }, region.1))
+    region ← region_at axes (has_bits 0x4000 index.0) peak.0 peak.1
+    Some (record { size = size.0; region = region.0; private = has_bits 0x2000 index.0 }, region.1))
 
 -- the points of a tuple: its private list, or the shared one
 unfoldable pub tuple_points_at : ℕ → Option (List ℕ) → Bool → List ℕ → Option (List ℕ × List ℕ)
@@ -94,8 +94,8 @@ unfoldable pub front_at : ℕ → List (List ℤ) → List ℕ → Option (Front
 front_at axes peaks bytes = do
   count ← word_at bytes
   offset ← word_at count.1
-  if not (nat_eq (count.0 / 4096 % 8) 0) then None else (do
-    heads ← many (header_at axes peaks) (count.0 % 4096) offset.1
+  if has_bits 0x7000 count.0 then None else (do
+    heads ← many (header_at axes peaks) (bit_and count.0 0x0FFF) offset.1
     Some (record { count = count.0; offset = offset.0; heads = heads.0 }, heads.1))
 
 -- the same, where the offset leads behind the headers
@@ -107,7 +107,7 @@ headers_at axes peaks bytes =
 unfoldable pub glyph_data_at : ℕ → ℕ → List (List ℤ) → List ℕ → Option (List TupleVariation × List ℕ)
 glyph_data_at axes total peaks bytes = do
   front ← headers_at axes peaks bytes
-  shared ← shared_points_at total (has_bit 32768 front.0.count) front.1
+  shared ← shared_points_at total (has_bits 0x8000 front.0.count) front.1
   tuples_at total shared.0 front.0.heads shared.1
 
 -- all of the bytes; no bytes mean no tuple

@@ -1,7 +1,7 @@
 ghost use Rattle.std.specs.Prelude.{◌≡◌, ◌<◌, List, map};
 ghost use Rattle.std.specs.List.{list_all};
 ghost use Rattle.variation_rules.specs.Decoding.{Gives};
-ghost use Rattle.variation_rules.specs.DecodingTuples.{has_bit, is_coordinate, is_tuple, shared_peak, peak_at, region_at, header_at};
+ghost use Rattle.variation_rules.specs.DecodingTuples.{is_coordinate, is_tuple, shared_peak, peak_at, region_at, header_at};
 ghost use Rattle.variation_rules.specs.TupleVariations.{plain_triple, triples};
 
 use crate::fields::{coordinates_at, word_at};
@@ -23,8 +23,8 @@ const PRIVATE_POINTS: u16 = 0x2000;
 /// The bit of a tupleIndex that is reserved.
 const RESERVED: u16 = 0x1000;
 
-/// The numbers that the low twelve bits of a word can hold.
-const LOW_BITS: u16 = 0x1000;
+/// The bits of a tupleIndex that hold the index of a shared peak.
+const PEAK_INDEX: u16 = 0x0FFF;
 
 /// What a tuple's header says.
 #[derive(Drop)]
@@ -35,14 +35,6 @@ pub struct Head {
     pub region: Seq<Triple>,
     /// Whether the packed part begins with points of the tuple's own.
     pub private: bool,
-}
-
-/// Whether a word has this bit, given by its value, set.
-pub fn has_bit(bit: u16, word: u16) -> bool
-    requires { 0 < bit }
-    ensures { result ≡ has_bit bit word }
-{
-    word / bit % 2 == 1
 }
 
 /// Whether a number is one that F2DOT14 holds.
@@ -99,11 +91,11 @@ fn peak_at<'a>(
 ) -> Result<(Seq<Fix<14>>, &'a [u8]), Refusal>
     ensures { Gives (λ x. (x.0, x.1.now)) result (peak_at axes peaks.now index bytes.now) }
 {
-    if !has_bit(EMBEDDED_PEAK, index) {
-        let peak = shared_peak(alloc, axes, peaks, index % LOW_BITS)?;
+    if index & EMBEDDED_PEAK == 0 {
+        let peak = shared_peak(alloc, axes, peaks, index & PEAK_INDEX)?;
         return Ok((peak, bytes));
     }
-    if index % LOW_BITS != 0 {
+    if index & PEAK_INDEX != 0 {
         return Err(Refusal::NoReading);
     }
     let (peak, rest) = coordinates_at(alloc, axes, bytes)?;
@@ -198,13 +190,13 @@ pub fn header_at<'a>(
 {
     let (size, rest) = word_at(bytes)?;
     let (index, rest) = word_at(rest)?;
-    if has_bit(RESERVED, index) {
+    if index & RESERVED != 0 {
         return Err(Refusal::NoReading);
     }
     let (peak, rest) = peak_at(alloc, axes, peaks, index, rest)?;
-    let intermediate = has_bit(INTERMEDIATE_REGION, index);
+    let intermediate = index & INTERMEDIATE_REGION != 0;
     let (region, rest) = region_at(alloc, axes, intermediate, peak.as_slice(), rest)?;
-    let private = has_bit(PRIVATE_POINTS, index);
+    let private = index & PRIVATE_POINTS != 0;
     Ok((
         Head {
             size,

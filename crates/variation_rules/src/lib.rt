@@ -8,6 +8,8 @@
 #![tactic(auto)]
 
 mod drawing;
+#[cfg(test)]
+mod drawing_tests;
 mod fields;
 mod filling;
 mod header;

@@ -168,7 +168,7 @@ fn count_at(bytes: &[u8]) -> Result<(u16, &[u8]), Refusal>
         return Ok((u16::from(first), rest));
     }
     let (second, rest) = byte_at(rest)?;
-    Ok((256 * u16::from(first - 0x80) + u16::from(second), rest))
+    Ok((u16::from_be_bytes([first - 0x80, second]), rest))
 }
 
 /// The point numbers that the differences lead to, the first counted from 0, if they rise and stay

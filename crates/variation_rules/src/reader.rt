@@ -5,7 +5,7 @@ ghost use Rattle.variation_rules.specs.TupleVariations.{MeansTuples};
 ghost use Rattle.variation_rules.specs.declared.tuple.TupleVariation.{TupleVariation};
 
 use crate::fields::word_at;
-use crate::header::{Head, has_bit, header_at};
+use crate::header::{Head, header_at};
 use crate::packed::{deltas_at, points_at};
 use crate::refusal::Refusal;
 use crate::tuple::TupleVariation;
@@ -16,8 +16,11 @@ use std::alloc::Global;
 /// The bit of the count word that says that shared points follow the headers.
 const SHARED_POINTS: u16 = 0x8000;
 
-/// The numbers that the low twelve bits of a word can hold.
-const LOW_BITS: u16 = 0x1000;
+/// The bits of the count word that are reserved.
+const RESERVED: u16 = 0x7000;
+
+/// The bits of the count word that hold the number of tuples.
+const TUPLE_COUNT: u16 = 0x0FFF;
 
 /// What stands in front of the packed data of a glyph.
 #[derive(Drop)]
@@ -190,10 +193,10 @@ fn front_at<'a>(
 {
     let (count, rest) = word_at(bytes)?;
     let (offset, rest) = word_at(rest)?;
-    if count / LOW_BITS % 8 != 0 {
+    if count & RESERVED != 0 {
         return Err(Refusal::NoReading);
     }
-    let (heads, rest) = heads_at(alloc, axes, peaks, count % LOW_BITS, rest)?;
+    let (heads, rest) = heads_at(alloc, axes, peaks, count & TUPLE_COUNT, rest)?;
     Ok((
         Front {
             count,
@@ -233,7 +236,7 @@ fn glyph_data_at<'a>(
     ensures { Gives (λ x. (x.0, x.1.now)) result (glyph_data_at axes total peaks.now bytes.now) }
 {
     let (front, rest) = headers_at(alloc, axes, peaks, bytes)?;
-    let has_shared = has_bit(SHARED_POINTS, front.count);
+    let has_shared = front.count & SHARED_POINTS != 0;
     let (shared, rest) = shared_points_at(alloc, total, has_shared, rest)?;
     let (tuples, rest) = tuples_at(alloc, total, &shared, front.heads.as_slice(), rest)?;
     Ok((tuples, rest))

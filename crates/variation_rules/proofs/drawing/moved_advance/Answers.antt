@@ -1,7 +1,6 @@
 use Rattle.std.proofs.Common.{◌+◌, ◌+ℤ◌, to_z, to_z-of_z, FitsSigned, arith}
 use Rattle.std.proofs.lemmas.Int.{ints}
 use Rattle.std.specs.Int.{w64}
-use Rattle.variation_rules.specs.DrawnOutline.{drawn_advance}
 use Rattle.variation_rules.proofs.DrawingLemmas.{phantom_step}
 use Rattle.variation_rules.proofs.drawing.moved_advance.Goals as goal
 

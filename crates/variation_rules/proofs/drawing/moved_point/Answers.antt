@@ -1,4 +1,4 @@
-use Rattle.std.proofs.Common.{ℤ, ◌≡◌, ◌<◌, ◌+ℤ◌, ◌*ℤ◌, length, get_or, sym, to_z, to_z-of_z, FitsSigned, arith}
+use Rattle.std.proofs.Common.{◌≡◌, ◌<◌, ◌+ℤ◌, ◌*ℤ◌, length, get_or, to_z, to_z-of_z, FitsSigned, arith}
 use Rattle.std.proofs.lemmas.Int.{ints}
 use Rattle.std.specs.Int.{w64}
 use Rattle.fixpoint.specs.declared.plane.Pair.{Pair}

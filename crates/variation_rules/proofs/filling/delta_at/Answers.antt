@@ -1,4 +1,4 @@
-use Rattle.std.proofs.Common.{◌≡◌, None, length, arith, rules, sym}
+use Rattle.std.proofs.Common.{length, arith}
 use Rattle.variation_rules.specs.PointDelta.{given_at}
 use Rattle.variation_rules.proofs.DrawingLemmas.{around_within}
 use Rattle.variation_rules.proofs.FillingLemmas.{delta_where_none, none_from_before, none_from_after, delta_answer}

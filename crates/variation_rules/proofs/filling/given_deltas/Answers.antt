@@ -1,4 +1,4 @@
-use Rattle.std.proofs.Common.{◌≡◌, ℕ, Option, None, IfSome, sym, arith}
+use Rattle.std.proofs.Common.{◌≡◌, ℕ, Option, None, IfSome, arith}
 use Rattle.std.proofs.lemmas.List.{length_push}
 use Rattle.std.proofs.lemmas.List.Elements.{All-push}
 use Rattle.fixpoint.specs.declared.plane.Pair.{Pair}

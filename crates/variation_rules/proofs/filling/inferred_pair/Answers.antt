@@ -1,4 +1,4 @@
-use Rattle.std.proofs.Common.{to_z-of_z, FitsSigned, arith, rules}
+use Rattle.std.proofs.Common.{to_z-of_z, FitsSigned, arith}
 use Rattle.std.proofs.lemmas.Int.{ints}
 use Rattle.std.specs.Int.{w32}
 use Rattle.variation_rules.proofs.filling.inferred_pair.Goals as goal

@@ -1,4 +1,4 @@
-use Rattle.std.proofs.Common.{◌≡◌, ℕ, ◌+◌, ◌%◌, ◌<◌, ◌≤◌, None, length}
+use Rattle.std.proofs.Common.{◌≡◌, ℕ, ◌+◌, ◌%◌, ◌<◌, ◌≤◌, None}
 use Rattle.variation_rules.specs.PointDelta.{given_at}
 use Rattle.variation_rules.proofs.filling.named_after.Given as goal
 

@@ -1,4 +1,4 @@
-use Rattle.std.proofs.Common.{◌≡◌, to_z-of_z, FitsSigned, arith, rules}
+use Rattle.std.proofs.Common.{◌≡◌, to_z-of_z, FitsSigned, arith}
 use Rattle.std.proofs.lemmas.Int.{ints}
 use Rattle.std.specs.Int.{w64}
 use Rattle.variation_rules.proofs.InferredLemmas.{answer_turned, between_agree, between_differ}

@@ -1,4 +1,4 @@
-use Rattle.std.proofs.Common.{◌<ℤ◌, to_z-of_z, arith}
+use Rattle.std.proofs.Common.{to_z-of_z, arith}
 use Rattle.std.proofs.lemmas.Int.{ints}
 use Rattle.variation_rules.proofs.InferredLemmas.{answer_inside}
 use Rattle.variation_rules.proofs.inferred.inferred_upward.Goals as goal

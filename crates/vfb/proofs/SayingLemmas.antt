@@ -1,0 +1,144 @@
+-- What is said in all: the text of a command itself, and then the line of how it ended.
+use Rattle.std.proofs.Common.{◌≡◌, ℕ, ◌≤◌, ◌⊎◌, List, [], ◌∷◌, ◌++◌, codes, Bor, Option, Some, None, Result, Ok, Err, OnOk, OnErr, refl, sym, ◌∙◌, ap, subst, inl, inr, arith, append_assoc, append-nil}
+use Rattle.std.proofs.lemmas.List.{append_cancel_left}
+use Rattle.outside.specs.Files.{Files, IsFront, HasRisen}
+use Rattle.outside.specs.Said.{Says}
+use Rattle.outside.specs.declared.fault.Fault.{Fault}
+use Rattle.glif.specs.declared.shape.Drawing.{Drawing}
+use Rattle.vfb.specs.Command.{Tuples}
+use Rattle.vfb.specs.Ending.{status_of, ending_line}
+use Rattle.vfb.specs.Faults.{drawings_of}
+use Rattle.vfb.specs.Lines.{AddsLine, summary, write_fault_line, read_fault_line, refused_line}
+use Rattle.vfb.specs.Outcome.{IsAnswer, IsAnswerTo, SaysOf, IsSaid, Fails, IsCut, BreaksOff}
+use Rattle.vfb.specs.Performing.{SaysFront, SaysItself, IsSaidItself, FailsItself, IsCutItself, Performs}
+use Rattle.vfb.specs.declared.status.Status.{Status}
+use Rattle.vfb.specs.declared.status.Status.TheVariants as status
+use Rattle.vfb.specs.declared.ending.Ending.{Ending}
+use Rattle.vfb.specs.declared.ending.Ending.TheVariants.{Done, Refused, Usage, ReadFault, WriteFault, NoMemory}
+
+-- ---- one line
+
+-- a call that says a line adds it, or a front where the count of faults rose
+pub AddsLine-from : {V E risen : Type 0} (result : Result V E) (line old new : List ℕ) → OnOk result (new ≡ old ++ line) → OnErr result (IsFront old new × IsFront new (old ++ line)) → OnErr result risen → AddsLine risen line old new
+AddsLine-from (Ok _) line old new whole front risen = inl whole
+AddsLine-from (Err _) line old new whole front risen = inr (risen, front.0, front.1)
+
+-- the same of a text that was said before, and of a longer call
+pub AddsLine-wider : {inner risen : Type 0} (line old mid new : List ℕ) → (inner → risen) → mid ≡ old → AddsLine inner line mid new → AddsLine risen line old new
+AddsLine-wider {risen = risen} line old mid new wider same (inl whole) = inl (whole ∙ ap (λ said. said ++ line) same)
+AddsLine-wider {risen = risen} line old mid new wider same (inr cut) =
+    inr (wider cut.0, subst (λ said. IsFront said new) same cut.1, subst (λ said. IsFront new (said ++ line)) same cut.2)
+
+-- what is nothing with more behind it is nothing
+nothing_before : (front rest : List ℕ) → front ++ rest ≡ [] → front ≡ []
+nothing_before [] rest none = refl
+nothing_before (b ∷ front) rest none = absurd cc
+
+-- adding no line changes nothing
+pub AddsLine-none : {risen : Type 0} (old new : List ℕ) → AddsLine risen [] old new → new ≡ old
+AddsLine-none old new (inl whole) = whole ∙ append-nil old
+AddsLine-none old new (inr cut) =
+    let first = cut.1 in
+    let second = cut.2 in
+    let none : first.0 ++ second.0 ≡ [] =
+    append_cancel_left old (first.0 ++ second.0) [] (sym (append_assoc old first.0 second.0) ∙ (ap (λ said. said ++ second.0) first.1 ∙ second.1)) in
+    sym first.1 ∙ (ap (λ front. old ++ front) (nothing_before first.0 second.0 none) ∙ append-nil old)
+
+-- a front of the summary, and then the line of a fault of saying
+BreaksOff-from : {inner later risen : Type 0} (text old mid new : List ℕ) → (inner → risen) → (later → risen)
+    → SaysFront inner text old mid → AddsLine later (write_fault_line (codes "-")) mid new → BreaksOff risen text old new
+BreaksOff-from text old mid new first second says adds =
+    (first says.0, (says.1.0, says.1.1, AddsLine-wider (write_fault_line (codes "-")) (old ++ says.1.0) mid new second says.1.2 adds))
+
+-- ---- the whole
+
+module _ {inner later risen : Type 0} (first : inner → risen) (second : later → risen) where
+  SaysOf-from : (command : Tuples) (files : Files) (reading : Result (Drawing × Drawing) Fault) (old mid new : List ℕ) (ending : Ending)
+      → IsAnswerTo reading (status_of ending) → SaysItself command files reading inner old mid ending → AddsLine later (ending_line ending) mid new
+      → SaysOf command files reading risen old new (status_of ending)
+  SaysOf-from command files (Ok drawings) old mid new Done answer says adds = AddsLine-none mid new adds ∙ says
+  SaysOf-from command files (Ok drawings) old mid new (Refused fault) answer says adds = absurd answer
+  SaysOf-from command files (Ok drawings) old mid new Usage answer says adds = absurd answer
+  SaysOf-from command files (Ok drawings) old mid new (ReadFault path) answer (inl at, same) adds =
+      inl (subst (λ path. AddsLine risen (read_fault_line path) old new) at (AddsLine-wider (read_fault_line path.now) old mid new second same adds))
+  SaysOf-from command files (Ok drawings) old mid new (ReadFault path) answer (inr (given, at), same) adds =
+      inr (given, subst (λ path. AddsLine risen (read_fault_line path) old new) at (AddsLine-wider (read_fault_line path.now) old mid new second same adds))
+  SaysOf-from command files (Ok drawings) old mid new (WriteFault path) answer (inl at) adds =
+      inl (subst (λ path. AddsLine risen (write_fault_line path) old new) at.0 (AddsLine-wider (write_fault_line path.now) old mid new second at.1 adds))
+  SaysOf-from command files (Ok drawings) old mid new (WriteFault path) answer (inr at) adds =
+      inr (BreaksOff-from (summary drawings.0 drawings.1) old mid new first second at.1 (subst (λ path. AddsLine later (write_fault_line path) mid new) at.0 adds))
+  SaysOf-from command files (Ok drawings) old mid new NoMemory answer says adds = AddsLine-wider _ old mid new second says adds
+  SaysOf-from command files (Err fault) old mid new Done answer says adds = absurd answer
+  SaysOf-from command files (Err fault) old mid new (Refused found) answer says adds = AddsLine-wider (refused_line found) old mid new second says adds
+  SaysOf-from command files (Err fault) old mid new Usage answer says adds = absurd answer
+  SaysOf-from command files (Err fault) old mid new (ReadFault path) answer (inl at, same) adds =
+      inl (subst (λ path. AddsLine risen (read_fault_line path) old new) at (AddsLine-wider (read_fault_line path.now) old mid new second same adds))
+  SaysOf-from command files (Err fault) old mid new (ReadFault path) answer (inr (given, at), same) adds =
+      inr (given, subst (λ path. AddsLine risen (read_fault_line path) old new) at (AddsLine-wider (read_fault_line path.now) old mid new second same adds))
+  SaysOf-from command files (Err fault) old mid new (WriteFault path) answer says adds = absurd answer
+  SaysOf-from command files (Err fault) old mid new NoMemory answer says adds = AddsLine-wider _ old mid new second says adds
+
+  pub IsSaid-from : (command : Option Tuples) (files : Files) (old mid new : List ℕ) (ending : Ending)
+      → IsAnswer command files (status_of ending) → IsSaidItself command files inner old mid ending → AddsLine later (ending_line ending) mid new
+      → IsSaid command files risen old new (status_of ending)
+  IsSaid-from None files old mid new Usage answer says adds = AddsLine-wider _ old mid new second says adds
+  IsSaid-from None files old mid new Done answer says adds = absurd answer
+  IsSaid-from None files old mid new (Refused _) answer says adds = absurd answer
+  IsSaid-from None files old mid new (ReadFault _) answer says adds = absurd answer
+  IsSaid-from None files old mid new (WriteFault _) answer says adds = absurd answer
+  IsSaid-from None files old mid new NoMemory answer says adds = absurd answer
+  IsSaid-from (Some command) files old mid new ending answer says adds = SaysOf-from command files (drawings_of files command) old mid new ending answer says adds
+
+  Fails-from : (command : Tuples) (reading : Result (Drawing × Drawing) Fault) (old new : Files) (said_old said_mid said_new : List ℕ) (path : Bor (List ℕ))
+      → FailsItself command reading inner old new said_old said_mid (WriteFault path) → AddsLine later (write_fault_line path.now) said_mid said_new
+      → Fails command reading risen old new said_old said_new
+  Fails-from command (Err fault) old new said_old said_mid said_new path cut adds = absurd cut
+  Fails-from command (Ok drawings) old new said_old said_mid said_new path (bytes, of, inl (at, cut, same)) adds =
+      (bytes, of, inl (cut, subst (λ path. AddsLine risen (write_fault_line path) said_old said_new) at (AddsLine-wider (write_fault_line path.now) said_old said_mid said_new second same adds)))
+  Fails-from command (Ok drawings) old new said_old said_mid said_new path (bytes, of, inr (at, whole, says)) adds =
+      (bytes, of, inr (whole, BreaksOff-from (summary drawings.0 drawings.1) said_old said_mid said_new first second says (subst (λ path. AddsLine later (write_fault_line path) said_mid said_new) at adds)))
+
+  pub IsCut-from : (command : Option Tuples) (files : Files) (old new : Files) (said_old said_mid said_new : List ℕ) (ending : Ending)
+      → status_of ending ≡ status.WriteFault → IsCutItself command files inner old new said_old said_mid ending → AddsLine later (ending_line ending) said_mid said_new
+      → IsCut command files risen old new said_old said_new
+  IsCut-from None files old new said_old said_mid said_new (WriteFault path) is cut adds = absurd cut
+  IsCut-from (Some command) files old new said_old said_mid said_new (WriteFault path) is cut adds =
+      Fails-from command (drawings_of files command) old new said_old said_mid said_new path cut adds
+  IsCut-from command files old new said_old said_mid said_new Done is cut adds = absurd cc
+  IsCut-from command files old new said_old said_mid said_new (Refused _) is cut adds = absurd cc
+  IsCut-from command files old new said_old said_mid said_new Usage is cut adds = absurd cc
+  IsCut-from command files old new said_old said_mid said_new (ReadFault _) is cut adds = absurd cc
+  IsCut-from command files old new said_old said_mid said_new NoMemory is cut adds = absurd cc
+
+-- ---- counts of faults
+
+-- a count that rose in a part rose in the whole
+pub rises_early : (old mid new : ℕ) → mid ≤ new → HasRisen old mid → HasRisen old new
+rises_early old mid new grows rose = omega arith
+
+pub rises_late : (old mid new : ℕ) → old ≤ mid → HasRisen mid new → HasRisen old new
+rises_late old mid new grows rose = omega arith
+
+-- ---- a command and its line
+
+module _ {X Y Z V E : Type 0}
+    {tells : X → Type 0} {sources : X → Files} {read_faults : X → ℕ} {reads_surely : X → Type 0}
+    {tells_outputs : Y → Type 0} {outputs : Y → Files} {write_faults : Y → ℕ} {writes_surely : Y → Type 0} {room : Y → List ℕ → Option ℕ}
+    {tells_said : Z → Type 0} {said : Z → List ℕ} {say_faults : Z → ℕ} {says_surely : Z → Type 0} {say_room : Z → ℕ}
+    {x x' : X} {y y' : Y} {z z' z'' : Z} {command : Option Tuples} {ending : Ending} {result : Result V E} {state : Status}
+    (does : Performs tells sources read_faults reads_surely tells_outputs outputs write_faults writes_surely room tells_said said say_faults says_surely say_room x x' y y' z z' command ending)
+    (says : Says tells_said said say_faults says_surely say_room z' z'' (ending_line ending) result) (is : state ≡ status_of ending) where
+  adds : tells_said z → AddsLine (HasRisen (say_faults z') (say_faults z'')) (ending_line ending) (said z') (said z'')
+  adds told = AddsLine-from result (ending_line ending) (said z') (said z'') (says.whole (does.told told)) (says.front (does.told told)) says.risen
+
+  pub IsSaid-with_line : tells x → tells_said z → IsSaid command (sources x) (HasRisen (say_faults z) (say_faults z'')) (said z) (said z'') state
+  IsSaid-with_line told told_said =
+      subst (IsSaid command (sources x) (HasRisen (say_faults z) (say_faults z'')) (said z) (said z'')) (sym is)
+      (IsSaid-from (rises_early (say_faults z) (say_faults z') (say_faults z'') says.counted) (rises_late (say_faults z) (say_faults z') (say_faults z'') does.counted)
+      command (sources x) (said z) (said z') (said z'') ending (does.answer told) (does.says told told_said) (adds told_said))
+
+  pub IsCut-with_line : tells x → tells_outputs y → tells_said z → state ≡ status.WriteFault
+      → IsCut command (sources x) (HasRisen (say_faults z) (say_faults z'')) (outputs y) (outputs y') (said z) (said z'')
+  IsCut-with_line told told_outputs told_said fails =
+      IsCut-from (rises_early (say_faults z) (say_faults z') (say_faults z'') says.counted) (rises_late (say_faults z) (say_faults z') (say_faults z'') does.counted)
+      command (sources x) (outputs y) (outputs y') (said z) (said z') (said z'') ending (sym is ∙ fails) (does.cut told told_outputs told_said) (adds told_said)

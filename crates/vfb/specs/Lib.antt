@@ -1,0 +1,11 @@
+pub mod Command
+pub mod Compatible
+pub mod Ending
+pub mod Faults
+pub mod Glyph
+pub mod Lines
+pub mod Outcome
+pub mod Performing
+pub mod Stops
+pub mod Words
+pub mod Writing

@@ -1,0 +1,43 @@
+-- The lines that are said.
+use Rattle.std.specs.Prelude.{◌≡◌, ℕ, List, [], ◌∷◌, ◌++◌, length, codes, decimal, if◌then◌else◌, ◌⊎◌}
+use Rattle.std.specs.List.{concat}
+use Rattle.std.specs.Fmt.{signed_decimal}
+use Rattle.outside.specs.Files.{IsFront}
+use Rattle.outside.specs.Kinds.{kind_name}
+use Rattle.outside.specs.declared.fault.Fault.{Fault}
+use Rattle.glif.specs.declared.shape.Drawing.{Drawing}
+use Rattle.vfb.specs.Glyph.{points_of, are_equal}
+
+-- an empty text is shown as a dash
+abbrev pub or_dash : List ℕ → List ℕ
+or_dash [] = codes "-"
+or_dash (b ∷ bytes) = b ∷ bytes
+
+abbrev pub refused_line : Fault → List ℕ
+refused_line fault = concat (codes "refused " ∷ kind_name fault.spot.kind ∷ codes " " ∷ or_dash fault.path ∷ codes " " ∷ or_dash fault.spot.item ∷ codes " "
+    ∷ decimal fault.spot.at ∷ codes " " ∷ decimal fault.spot.also ∷ codes " " ∷ signed_decimal fault.spot.first ∷ codes " " ∷ signed_decimal fault.spot.second ∷ codes "\n" ∷ [])
+
+abbrev pub usage_line : List ℕ
+usage_line = codes "usage words\n"
+
+abbrev pub read_fault_line : List ℕ → List ℕ
+read_fault_line path = concat (codes "read fault " ∷ path ∷ codes "\n" ∷ [])
+
+abbrev pub write_fault_line : List ℕ → List ℕ
+write_fault_line path = concat (codes "write fault " ∷ path ∷ codes "\n" ∷ [])
+
+abbrev pub no_memory_line : List ℕ
+no_memory_line = codes "no memory\n"
+
+-- so many tuples with so many explicit points among so many points
+abbrev pub counts_line : ℕ → ℕ → ℕ → List ℕ
+counts_line tuples explicit points =
+    concat (codes "tuples " ∷ decimal tuples ∷ codes " explicit " ∷ decimal explicit ∷ codes " of " ∷ decimal points ∷ codes "\n" ∷ [])
+
+-- what is said of the data of two drawings: one tuple of all outline points, or none
+abbrev pub summary : Drawing → Drawing → List ℕ
+summary first second = if are_equal first second then counts_line 0 0 0 else counts_line 1 (length (points_of first)) (length (points_of first))
+
+-- the text went from old to new by a line, which is cut short only where the count of faults rose
+abbrev pub AddsLine : Type 0 → List ℕ → List ℕ → List ℕ → Type 0
+AddsLine risen line old new = (new ≡ old ++ line) ⊎ (risen × IsFront old new × IsFront new (old ++ line))

@@ -1,0 +1,415 @@
+//! What no clause says: that a run with ample memory doesn't give up, and what its answers are, worked
+//! out by hand.
+
+use super::*;
+use outside::{
+    Found, MemoryOutputs, MemorySay, MemorySources, Name, ReadError, Seq, Sources, SureOutputs,
+    SureSay, SureSources,
+};
+use std::process::Abort;
+use std::test::Fail;
+
+mod drawn;
+
+/// A triangle with the corners (100, 0), (200, 0) and (100, 100).
+const TRIANGLE: &str = r#"<glyph name="a" format="2">
+<advance width="300"/>
+<outline>
+<contour>
+<point x="100" y="0" type="line"/>
+<point x="200" y="0" type="line"/>
+<point x="100" y="100" type="line"/>
+</contour>
+</outline>
+</glyph>
+"#;
+
+/// The same, moved by 50 to the right.
+const MOVED: &str = r#"<glyph name="a" format="2">
+<advance width="300"/>
+<outline>
+<contour>
+<point x="150" y="0" type="line"/>
+<point x="250" y="0" type="line"/>
+<point x="150" y="100" type="line"/>
+</contour>
+</outline>
+</glyph>
+"#;
+
+/// Three points as well, in two contours.
+const PARTED: &str = r#"<glyph name="a" format="2">
+<advance width="300"/>
+<outline>
+<contour>
+<point x="100" y="0" type="line"/>
+<point x="200" y="0" type="line"/>
+</contour>
+<contour>
+<point x="100" y="100" type="line"/>
+</contour>
+</outline>
+</glyph>
+"#;
+
+/// A glyph without contours.
+const NARROW: &str = r#"<glyph name="space" format="2">
+<advance width="200"/>
+<outline>
+</outline>
+</glyph>
+"#;
+
+/// The same with an advance greater by 60.
+const WIDE: &str = r#"<glyph name="space" format="2">
+<advance width="260"/>
+<outline>
+</outline>
+</glyph>
+"#;
+
+/// The words that ask for the data of the drawings in `a.glif` and `b.glif`.
+const WORDS: &[&str] = &["vfb", "tuples", "o.bin", "a.glif@0", "b.glif@16384"];
+
+/// The data of the triangle that moves: one tuple with its peak at 16,384, all seven points, the x deltas
+/// three times 50 and four zeros, and seven zeros for y.
+const MOVED_DATA: &[u8] = &[
+    0x00, 0x01, 0x00, 0x0A, 0x00, 0x07, 0xA0, 0x00, 0x40, 0x00, 0x00, 0x02, 0x32, 0x32, 0x32, 0x83,
+    0x86,
+];
+
+/// What is said of them.
+const MOVED_SAID: &str = "tuples 1 explicit 3 of 3\n";
+
+/// The data of the advance that grows: the second of the four phantom points has 60 for x.
+const WIDE_DATA: &[u8] = &[
+    0x00, 0x01, 0x00, 0x0A, 0x00, 0x06, 0xA0, 0x00, 0x40, 0x00, 0x00, 0x80, 0x00, 0x3C, 0x81, 0x83,
+];
+
+/// A run over files that are always read, with room for all that it writes and says: its words and its
+/// files, and then its status, what it says and what `o.bin` holds.
+struct Case {
+    words: &'static [&'static str],
+    files: &'static [(&'static str, &'static str)],
+    status: u8,
+    said: &'static str,
+    held: Option<&'static [u8]>,
+}
+
+/// Two drawings.
+const CASES: [Case; 10] = [
+    Case {
+        words: WORDS,
+        files: &[("a.glif", TRIANGLE), ("b.glif", MOVED)],
+        status: 0,
+        said: MOVED_SAID,
+        held: Some(MOVED_DATA),
+    },
+    Case {
+        words: WORDS,
+        files: &[("a.glif", TRIANGLE), ("b.glif", TRIANGLE)],
+        status: 0,
+        said: "tuples 0 explicit 0 of 0\n",
+        held: Some(b""),
+    },
+    Case {
+        words: WORDS,
+        files: &[("a.glif", NARROW), ("b.glif", WIDE)],
+        status: 0,
+        said: "tuples 1 explicit 0 of 0\n",
+        held: Some(WIDE_DATA),
+    },
+    Case {
+        words: WORDS,
+        files: &[("b.glif", "?")],
+        status: 1,
+        said: "refused MissingFile a.glif - 0 0 0 0\n",
+        held: None,
+    },
+    Case {
+        words: WORDS,
+        files: &[("a.glif", TRIANGLE)],
+        status: 1,
+        said: "refused MissingFile b.glif - 0 0 0 0\n",
+        held: None,
+    },
+    Case {
+        words: WORDS,
+        files: &[("a.glif", "?")],
+        status: 1,
+        said: "refused NotBuilt a.glif - 0 0 0 0\n",
+        held: None,
+    },
+    Case {
+        words: WORDS,
+        files: &[("a.glif", TRIANGLE), ("b.glif", "")],
+        status: 1,
+        said: "refused NotBuilt b.glif - 0 0 0 0\n",
+        held: None,
+    },
+    Case {
+        words: WORDS,
+        files: &[("a.glif", TRIANGLE), ("b.glif", PARTED)],
+        status: 1,
+        said: "refused NotBuilt b.glif - 0 0 0 0\n",
+        held: None,
+    },
+    Case {
+        words: &["", "tuples", "o.bin", "@0", "b.glif@16384"],
+        files: &[],
+        status: 1,
+        said: "refused MissingFile - - 0 0 0 0\n",
+        held: None,
+    },
+    Case {
+        words: &["", "tuples", "o.bin", "a@0@0", "b.glif@16384"],
+        files: &[],
+        status: 1,
+        said: "refused MissingFile a@0 - 0 0 0 0\n",
+        held: None,
+    },
+];
+
+/// Words that are those of no command.
+const USAGES: [&[&str]; 9] = [
+    &[],
+    &["vfb"],
+    &["vfb", "tuples", "o.bin", "a.glif@0"],
+    &["vfb", "tuples", "o.bin", "a.glif@0", "b.glif@16384", "c@0"],
+    &["vfb", "build", "o.bin", "a.glif@0", "b.glif@16384"],
+    &["vfb", "tuples", "o.bin", "a.glif@16384", "b.glif@0"],
+    &["vfb", "tuples", "o.bin", "a.glif@0", "b.glif@016384"],
+    &["vfb", "tuples", "o.bin", "a.glif@+0", "b.glif@16384"],
+    &["vfb", "tuples", "o.bin", "a.glif", "b.glif@16384"],
+];
+
+/// Words of their own.
+fn owned(alloc: Global, words: &[&str]) -> Result<Vec<String>, Fail> {
+    let mut all = Vec::new(alloc);
+    for word in words {
+        all.push(String::from_str(alloc, word)?)?;
+    }
+    Ok(all)
+}
+
+/// Files with these texts.
+fn files(alloc: Global, texts: &[(&str, &str)]) -> Result<Seq<(Name, Vec<u8>)>, Fail> {
+    let mut all = Seq::new(alloc);
+    for (path, text) in texts {
+        let bytes = Vec::from_slice(alloc, text.as_bytes())?;
+        all.push((Name::from_str(alloc, path)?, bytes))?;
+    }
+    Ok(all)
+}
+
+/// Room for this many bytes at `o.bin`.
+fn room(alloc: Global, size: u64) -> Result<Seq<(Name, u64)>, Fail> {
+    let mut all = Seq::new(alloc);
+    all.push((Name::from_str(alloc, "o.bin")?, size))?;
+    Ok(all)
+}
+
+/// Runs the words over the files, and compares the status, what is said and what `o.bin` holds.
+fn check(
+    rt: &impl Abort,
+    alloc: Global,
+    words: &[&str],
+    texts: &[(&str, &str)],
+    status: u8,
+    said: &str,
+    held: Option<&[u8]>,
+) -> Result<(), Fail> {
+    let words = owned(alloc, words)?;
+    let mut sources = SureSources::new(files(alloc, texts)?);
+    let mut outputs = SureOutputs::new(alloc, room(alloc, 99)?)?;
+    let mut say = SureSay::new(alloc, 99)?;
+    let ended = run(alloc, &words, &mut sources, &mut outputs, &mut say);
+    assert_eq!(rt; ended.number(), status, "{said}");
+    assert_eq!(rt; say.said(), said.as_bytes(), "{said}");
+    assert_eq!(rt; outputs.held("o.bin"), held, "{said}");
+    Ok(())
+}
+
+#[test]
+fn answers_for_two_drawings(rt: HostRuntime) -> Result<(), Fail> {
+    let alloc = rt.alloc();
+    for case in &CASES {
+        check(
+            &rt,
+            alloc,
+            case.words,
+            case.files,
+            case.status,
+            case.said,
+            case.held,
+        )?;
+    }
+    for words in USAGES {
+        check(&rt, alloc, words, &[], 2, "usage words\n", None)?;
+    }
+    Ok(())
+}
+
+/// Files that are all too long.
+#[derive(Drop)]
+struct LongSources;
+
+impl Sources for LongSources {
+    ghost use Rattle.std.specs.Prelude.{None};
+
+    ghost tells = { λ _. ⊥ };
+
+    ghost files = { λ _ _. None };
+
+    ghost faults = { λ _. 0 };
+
+    ghost is_sure = { λ _. ⊥ };
+
+    fn read(&mut self, _: Global, _: &str, limit: usize) -> Result<Found, ReadError> {
+        match limit.checked_add(1) {
+            Some(length) => Ok(Found::TooLong(length as u64)),
+            None => Ok(Found::Absent),
+        }
+    }
+}
+
+#[test]
+fn refuses_a_long_file(rt: HostRuntime) -> Result<(), Fail> {
+    let alloc = rt.alloc();
+    let words = owned(alloc, WORDS)?;
+    let mut outputs = SureOutputs::new(alloc, room(alloc, 99)?)?;
+    let mut say = SureSay::new(alloc, 99)?;
+    let status = run(alloc, &words, &mut LongSources, &mut outputs, &mut say);
+    assert_eq!(rt; status.number(), 1);
+    assert_eq!(rt;
+        say.said(),
+        b"refused NotBuilt a.glif - 0 0 0 0\n".as_slice()
+    );
+    Ok(())
+}
+
+/// Calls that fail in a run over the triangle that moves: reads, writes and calls that say something;
+/// and then its status, how the text said begins and ends, and what `o.bin` holds.
+struct Failing {
+    reads: &'static [u64],
+    writes: &'static [u64],
+    says: &'static [u64],
+    status: u8,
+    begins: &'static str,
+    ends: &'static str,
+    held: Option<&'static [u8]>,
+}
+
+/// Each device in turn. The line of a fault of saying stands behind what was said of the summary.
+const FAILING: [Failing; 6] = [
+    Failing {
+        reads: &[2],
+        writes: &[2],
+        says: &[99],
+        status: 0,
+        begins: MOVED_SAID,
+        ends: MOVED_SAID,
+        held: Some(MOVED_DATA),
+    },
+    Failing {
+        reads: &[0],
+        writes: &[],
+        says: &[],
+        status: 3,
+        begins: "read fault a.glif\n",
+        ends: "read fault a.glif\n",
+        held: None,
+    },
+    Failing {
+        reads: &[1],
+        writes: &[],
+        says: &[],
+        status: 3,
+        begins: "read fault b.glif\n",
+        ends: "read fault b.glif\n",
+        held: None,
+    },
+    Failing {
+        reads: &[],
+        writes: &[0],
+        says: &[],
+        status: 4,
+        begins: "write fault o.bin\n",
+        ends: "write fault o.bin\n",
+        held: None,
+    },
+    Failing {
+        reads: &[],
+        writes: &[1],
+        says: &[],
+        status: 4,
+        begins: "write fault o.bin\n",
+        ends: "write fault o.bin\n",
+        held: Some(&[0x00, 0x01, 0x00, 0x0A, 0x00, 0x07, 0xA0, 0x00]),
+    },
+    Failing {
+        reads: &[],
+        writes: &[],
+        says: &[0],
+        status: 4,
+        begins: "tu",
+        ends: "write fault -\n",
+        held: Some(MOVED_DATA),
+    },
+];
+
+/// A list of these numbers.
+fn numbers(alloc: Global, numbers: &[u64]) -> Result<Seq<u64>, Fail> {
+    Ok(Seq::from_vec(Vec::from_slice(alloc, numbers)?))
+}
+
+/// Runs as the case says, and compares what comes of it.
+fn check_failing(rt: &impl Abort, alloc: Global, case: &Failing) -> Result<(), Fail> {
+    let words = owned(alloc, WORDS)?;
+    let texts = files(alloc, &[("a.glif", TRIANGLE), ("b.glif", MOVED)])?;
+    let mut sources = MemorySources::new(texts, numbers(alloc, case.reads)?);
+    let mut outputs = MemoryOutputs::new(alloc, room(alloc, 99)?, numbers(alloc, case.writes)?)?;
+    let mut say = MemorySay::new(alloc, 99, numbers(alloc, case.says)?)?;
+    let status = run(alloc, &words, &mut sources, &mut outputs, &mut say);
+    let ends = case.ends;
+    assert_eq!(rt; status.number(), case.status, "{ends}");
+    assert!(rt; say.said().starts_with(case.begins.as_bytes()), "{ends}");
+    assert!(rt; say.said().ends_with(ends.as_bytes()), "{ends}");
+    assert_eq!(rt; outputs.held("o.bin"), case.held, "{ends}");
+    Ok(())
+}
+
+#[test]
+fn ends_where_a_device_fails(rt: HostRuntime) -> Result<(), Fail> {
+    for case in &FAILING {
+        check_failing(&rt, rt.alloc(), case)?;
+    }
+    Ok(())
+}
+
+/// Rooms for the data and for the text; and then the status, what is said, and how many bytes of the data
+/// `o.bin` holds.
+const ROOMS: [(u64, u64, u8, &str, usize); 5] = [
+    (17, 25, 0, MOVED_SAID, 17),
+    (16, 99, 4, "write fault o.bin\n", 16),
+    (0, 17, 4, "write fault o.bin", 0),
+    (17, 24, 4, "tuples 1 explicit 3 of 3", 17),
+    (17, 0, 4, "", 17),
+];
+
+#[test]
+fn ends_where_there_is_no_room(rt: HostRuntime) -> Result<(), Fail> {
+    let alloc = rt.alloc();
+    let words = owned(alloc, WORDS)?;
+    for (data, text, status, said, held) in ROOMS {
+        let texts = files(alloc, &[("a.glif", TRIANGLE), ("b.glif", MOVED)])?;
+        let mut sources = SureSources::new(texts);
+        let mut outputs = SureOutputs::new(alloc, room(alloc, data)?)?;
+        let mut say = SureSay::new(alloc, text)?;
+        let ended = run(alloc, &words, &mut sources, &mut outputs, &mut say);
+        assert_eq!(rt; ended.number(), status, "{said}");
+        assert_eq!(rt; say.said(), said.as_bytes(), "{said}");
+        assert_eq!(rt; outputs.held("o.bin"), MOVED_DATA.get(..held), "{said}");
+    }
+    Ok(())
+}

@@ -1,0 +1,58 @@
+ghost use Rattle.std.specs.Prelude.{◌↔◌, IsTrue, All};
+ghost use Rattle.variation_rules.specs.FontUnits.{AreFWords, IsFWord};
+ghost use Rattle.variation_rules.specs.declared.tuple.TupleVariation.{TupleVariation};
+
+use super::*;
+use fixpoint::{Fix, Pair};
+use variation_rules::{TupleVariation, draw, read_tuples};
+
+/// Whether both numbers of a delta fit 16 bits.
+fn are_words(delta: &Pair) -> bool
+    ensures { IsTrue result ↔ AreFWords delta.now }
+{
+    (-32_768..=32_767).contains(&delta.x) && (-32_768..=32_767).contains(&delta.y)
+}
+
+/// Whether those of all deltas of the tuple do.
+fn has_words(tuple: &TupleVariation) -> bool
+    ensures { IsTrue result ↔ All AreFWords tuple.now.deltas }
+{
+    tuple.deltas.as_slice().iter().all(are_words)
+}
+
+/// Whether those of all these tuples do.
+fn have_words(tuples: &[TupleVariation]) -> bool
+    ensures { IsTrue result ↔ All (λ (tuple : TupleVariation). All AreFWords tuple.deltas) tuples.now }
+{
+    tuples.iter().all(has_words)
+}
+
+/// The corners of the first triangle.
+const CORNERS: [Pair; 3] = [
+    Pair { x: 100, y: 0 },
+    Pair { x: 200, y: 0 },
+    Pair { x: 100, y: 100 },
+];
+
+/// Where on the axis, and where the first corner then is.
+const FIRST_CORNER: [(i32, i64); 4] = [(-16_384, 100), (0, 100), (8_192, 125), (16_384, 150)];
+
+/// The data that are written, read back by the plain reader, draw the way from one triangle to the other.
+#[test]
+fn draws_the_way_between(rt: HostRuntime) -> Result<(), Fail> {
+    let alloc = rt.alloc();
+    let tuples = read_tuples(alloc, 1, 7, &Seq::new(alloc), MOVED_DATA)?.ok_or("a reading")?;
+    assert_eq!(rt; tuples.len(), 1);
+    assert!(rt; have_words(tuples.as_slice()));
+    for (at, x) in FIRST_CORNER {
+        let glyph = draw(alloc, &[3], &CORNERS, 300, &tuples, &[Fix::from_raw(at)])?.ok_or(
+            "a drawing",
+        )?;
+        let points = glyph.points.as_slice();
+        assert_eq!(rt; points.len(), 3);
+        assert_eq!(rt; points[0].x, 65_536 * x);
+        assert_eq!(rt; points[0].y, 0);
+        assert_eq!(rt; glyph.advance, 65_536 * 300);
+    }
+    Ok(())
+}
