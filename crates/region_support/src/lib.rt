@@ -4,6 +4,7 @@
 mod cut;
 mod first;
 mod influence;
+mod laws;
 mod support;
 #[cfg(test)]
 mod tests;
@@ -11,6 +12,7 @@ mod tests;
 use arrayvec::ArrayVec;
 use fixpoint::Fix;
 pub use influence::scalar;
+pub use laws::own_one_later_nothing;
 pub use variation_rules::Triple;
 
 /// A place in the design space: one normalised coordinate an axis (F2DOT14), in the font's order of axes, at

@@ -1,4 +1,5 @@
 use crate::Location;
+use crate::influence::scalar;
 use crate::support::write_region;
 use arrayvec::ArrayVec;
 use fixpoint::Fix;
@@ -158,4 +159,25 @@ fn more_axes(rt: HostRuntime) {
         ],
     );
     assert_eq!(rt; found, Ok(None));
+}
+
+// Half way to its peak a region counts half, and at its peak whole; another axis halves it again.
+#[test]
+fn influence(rt: HostRuntime) {
+    let none = axis(0, 0, 0);
+    let [wide, narrow] = [axis(0, 16384, 16384), axis(0, 8192, 16384)];
+    let support = ArrayVec::from([wide, narrow, none, none, none, none, none, none]);
+    assert_eq!(rt;
+        scalar::<16>(&support, &location(16384, 8192, 0)).raw(),
+        65536
+    );
+    assert_eq!(rt;
+        scalar::<16>(&support, &location(8192, 8192, 16384)).raw(),
+        32768
+    );
+    assert_eq!(rt;
+        scalar::<14>(&support, &location(8192, 12288, 0)).raw(),
+        4096
+    );
+    assert_eq!(rt; scalar::<14>(&support, &location(8192, 16384, 0)).raw(), 0);
 }
