@@ -1,0 +1,4 @@
+pub mod AxisLemmas
+pub mod BoxLemmas
+pub mod RegionLaw
+pub mod RangeLemmas

@@ -1,0 +1,184 @@
+-- The law of the regions: at a master's location its own region is whole and every later one is nothing.
+use Rattle.std.proofs.Common.{◌≡◌, ◌≢◌, refl, sym, ◌∙◌, ap, subst, ℕ, suc, ℤ, pos, ◌≤ℤ◌, ◌<ℤ◌, ◌+◌, ◌≤◌, ◌^◌, ◌⊎◌, inl, inr, List, [], ◌∷◌, ◌++◌, map, length, zero-add, add-zero, arith}
+use Rattle.std.specs.Prelude.{unsigned_abs}
+use Rattle.std.specs.List.{AllByRecursion}
+use Rattle.std.specs.Ordering.{nat_cmp, ordering_then}
+use Rattle.std.proofs.Common.{Ordering, Less, Equal}
+use Rattle.std.specs.Cmp.Lexicographic.{slice_cmp}
+use Rattle.std.proofs.lemmas.Int.{ints, fold-int_max_bounds, fold-int_min_bounds}
+use Rattle.std.proofs.lemmas.List.Elements.{recursion_from_All}
+use Rattle.variation_rules.specs.declared.region.Triple.{Triple}
+use Rattle.variation_rules.specs.Scalar.{scalar_of}
+use Rattle.region_support.specs.MasterOrder.{values_of, axes_from, points_from, side, rank, compare_masters, RisesBy, AreMasters}
+use Rattle.region_support.specs.Regions.{value_on, least_on, greatest_on, first_triple, first_from, cut_by, cut_by_all, regions_after, regions_of, AreTriangular}
+use Rattle.region_support.proofs.AxisLemmas.{IsShaped}
+use Rattle.region_support.proofs.BoxLemmas.{IsBox, IsExcluded, own_whole, excluded_nothing, meets, meets_box, meets_keeps}
+
+-- the location is one of the list
+abbrev pub IsAmong : List ℤ → List (List ℤ) → Type 0
+IsAmong at [] = ⊥
+IsAmong at (other ∷ others) = (other ≡ at) ⊎ IsAmong at others
+
+among_more : (at : List ℤ) (xs ys : List (List ℤ)) → IsAmong at xs → IsAmong at (xs ++ ys)
+among_more at [] ys here = absurd here
+among_more at (x ∷ xs) ys (inl here) = inl here
+among_more at (x ∷ xs) ys (inr there) = inr (among_more at xs ys there)
+
+among_last : (at : List ℤ) (xs : List (List ℤ)) → IsAmong at (xs ++ (at ∷ []))
+among_last at [] = inl refl
+among_last at (x ∷ xs) = inr (among_last at xs)
+
+-- what holds of a value of each location holds of that of one of them
+among_all : (P : ℤ → Type 0) (f : List ℤ → ℤ) (at : List ℤ) (all : List (List ℤ)) → AllByRecursion P (map f all) → IsAmong at all → P (f at)
+among_all P f at [] each here = absurd here
+among_all P f at (x ∷ xs) each (inl here) = subst (λ (w : List ℤ). P (f w)) here each.0
+among_all P f at (x ∷ xs) each (inr there) = among_all P f at xs each.1 there
+
+-- all masters' values on an axis lie between the least and the greatest
+least_low : (at : List ℤ) (axis : ℕ) (all : List (List ℤ)) → IsAmong at all → least_on all axis ≤ℤ value_on axis at
+least_low at axis all here =
+    among_all (λ z. least_on all axis ≤ℤ z) (value_on axis) at all (recursion_from_All (λ z. least_on all axis ≤ℤ z) (map (value_on axis) all) (fold-int_min_bounds (pos 0) (map (value_on axis) all) (least_on all axis) refl).1) here
+
+greatest_high : (at : List ℤ) (axis : ℕ) (all : List (List ℤ)) → IsAmong at all → value_on axis at ≤ℤ greatest_on all axis
+greatest_high at axis all here =
+    among_all (λ z. z ≤ℤ greatest_on all axis) (value_on axis) at all (recursion_from_All (λ z. z ≤ℤ greatest_on all axis) (map (value_on axis) all) (fold-int_max_bounds (pos 0) (map (value_on axis) all) (greatest_on all axis) refl).1) here
+
+-- the form of an axis before any cut
+pub first_tells : (least greatest value : ℤ) → ((pos 0 <ℤ value) × (first_triple least greatest value ≡ record { start = pos 0; peak = value; end = greatest }))
+    ⊎ (((value <ℤ pos 0) × (first_triple least greatest value ≡ record { start = least; peak = value; end = pos 0 }))
+    ⊎ ((value ≡ pos 0) × (first_triple least greatest value ≡ record { start = pos 0; peak = pos 0; end = pos 0 })))
+first_tells least greatest value = grind (arith, ints)
+
+first_shaped : (least greatest value : ℤ) → least ≤ℤ value → value ≤ℤ greatest → ((first_triple least greatest value).peak ≡ value) × IsShaped (first_triple least greatest value)
+first_shaped least greatest value low high =
+    let P : Triple → Type 0 = λ t. (t.peak ≡ value) × IsShaped t in
+    elim (first_tells least greatest value) [
+      | inl above ↦ subst P (sym above.1) (refl, inr (inl (record { start = omega (arith, ints); peak = above.0; end = high })))
+      | inr (inl below) ↦ subst P (sym below.1) (refl, inr (inr (record { start = low; peak = below.0; end = omega (arith, ints) })))
+      | inr (inr none) ↦ subst P (sym none.1) (sym none.0, inl refl)
+    ]
+
+-- and of the region
+first_box : (all : List (List ℤ)) (axis : ℕ) (at vs : List ℤ) → IsAmong at all → ((k : ℕ) → value_on (axis + k) at ≡ value_on k vs) → IsBox vs (first_from all axis vs)
+first_box all axis at [] here values = tt
+first_box all axis at (v ∷ vs) here values =
+    let own : value_on axis at ≡ v = ap (λ (n : ℕ). value_on n at) (sym (add-zero axis)) ∙ values 0 in
+    let low = subst (λ (z : ℤ). least_on all axis ≤ℤ z) own (least_low at axis all here) in
+    let high = subst (λ (z : ℤ). z ≤ℤ greatest_on all axis) own (greatest_high at axis all here) in
+    let form = first_shaped (least_on all axis) (greatest_on all axis) v low high in
+    (form.0, form.1, first_box all (axis + 1) at vs here (λ k. ap (λ (n : ℕ). value_on n at) (next axis k) ∙ values (suc k)))
+  where
+    next : (a k : ℕ) → a + 1 + k ≡ a + suc k
+    next a k = omega arith
+
+cut_all_box : (at : List ℤ) (region : List Triple) (others : List (List ℤ)) → IsBox at region → IsBox at (cut_by_all region others)
+cut_all_box at region [] box = box
+cut_all_box at region (other ∷ others) box = cut_all_box at (cut_by region other) others (meets_box at region other box)
+
+cut_all_keeps : (at : List ℤ) (region : List Triple) (others : List (List ℤ)) (vs : List ℤ) → IsBox at region → IsExcluded region vs → IsExcluded (cut_by_all region others) vs
+cut_all_keeps at region [] vs box out = out
+cut_all_keeps at region (other ∷ others) vs box out = cut_all_keeps at (cut_by region other) others vs (meets_box at region other box) (meets_keeps at region other vs box out)
+
+-- an earlier master is excluded after all cuts
+excluded : (at : List ℤ) (region : List Triple) (others : List (List ℤ)) (vs : List ℤ) → IsBox at region → length vs ≡ length at → vs ≢ at → rank vs ≤ rank at → IsAmong vs others → IsExcluded (cut_by_all region others) vs
+excluded at region [] vs box same differs few here = absurd here
+excluded at region (other ∷ others) vs box same differs few (inl here) =
+    let P : List ℤ → Type 0 = λ o. IsExcluded (cut_by region o) vs in
+    cut_all_keeps at (cut_by region other) others vs (meets_box at region other box) (subst P (sym here) (meets at region vs box same differs few))
+excluded at region (other ∷ others) vs box same differs few (inr there) =
+    excluded at (cut_by region other) others vs (meets_box at region other box) same differs few there
+
+-- what the law uses of the order: later masters have no fewer axes, and other places
+abbrev pub IsLater : List ℤ → List ℤ → Type 0
+IsLater at other = (rank at ≤ rank other) × (length at ≡ length other) × (at ≢ other)
+
+abbrev pub AreLater : List (List ℤ) → Type 0
+AreLater [] = Unit {0}
+AreLater (at ∷ later) = AllByRecursion (λ other. IsLater at other) later × AreLater later
+
+abbrev AreAmong : List (List ℤ) → List (List ℤ) → Type 0
+AreAmong [] all = Unit {0}
+AreAmong (at ∷ ats) all = IsAmong at all × AreAmong ats all
+
+region_box : (all earlier : List (List ℤ)) (at : List ℤ) → IsAmong at all → IsBox at (cut_by_all (first_from all 0 at) earlier)
+region_box all earlier at here = cut_all_box at (first_from all 0 at) earlier (first_box all 0 at at here (λ k. ap (λ (n : ℕ). value_on n at) (zero-add k)))
+
+later_nothing : (all earlier : List (List ℤ)) (at : List ℤ) (later : List (List ℤ)) → IsAmong at earlier → AllByRecursion (λ other. IsLater at other) later → AreAmong later all
+    → AllByRecursion (λ region. (places : ℕ) → scalar_of places region at ≡ pos 0) (regions_after all earlier later)
+later_nothing all earlier at [] before after here = tt
+later_nothing all earlier at (other ∷ later) before after here = (
+  λ places. excluded_nothing (pos (2 ^ places)) (cut_by_all (first_from all 0 other) earlier) at
+      (excluded other (first_from all 0 other) earlier at (first_box all 0 other other here.0 (λ k. ap (λ (n : ℕ). value_on n other) (zero-add k))) after.0.1 after.0.2 after.0.0 before),
+  later_nothing all (earlier ++ (other ∷ [])) at later (among_more at earlier (other ∷ []) before) after.1 here.1,
+)
+
+triangular_after : (all earlier later : List (List ℤ)) → AreLater later → AreAmong later all → AreTriangular (regions_after all earlier later) later
+triangular_after all earlier [] after here = tt
+triangular_after all earlier (at ∷ later) after here = (
+  (
+    λ places. own_whole (pos (2 ^ places)) at (cut_by_all (first_from all 0 at) earlier) (region_box all earlier at here.0),
+    later_nothing all (earlier ++ (at ∷ [])) at later (among_last at earlier) after.0 here.1,
+  ),
+  triangular_after all (earlier ++ (at ∷ [])) later after.1 here.1,
+)
+
+nat_itself : (n : ℕ) → nat_cmp n n ≡ Equal
+nat_itself n = grind arith
+
+nats_themselves : (ns : List ℕ) → slice_cmp nat_cmp ns ns ≡ Equal
+nats_themselves [] = refl
+nats_themselves (n ∷ ns) = rw (nat_itself n) (nats_themselves ns)
+
+-- a location isn't before itself
+compare_itself : (all : List (List ℤ)) (at : List ℤ) → compare_masters all at at ≡ Equal
+compare_itself all at =
+    let ranks : nat_cmp (rank at) (rank at) ≡ Equal = nat_itself (rank at) in
+    let points : nat_cmp (points_from all 0 at) (points_from all 0 at) ≡ Equal = nat_itself (points_from all 0 at) in
+    let axes : slice_cmp nat_cmp (axes_from 0 at) (axes_from 0 at) ≡ Equal = nats_themselves (axes_from 0 at) in
+    let sides : slice_cmp nat_cmp (map side (values_of at)) (map side (values_of at)) ≡ Equal = nats_themselves (map side (values_of at)) in
+    let sizes : slice_cmp nat_cmp (map unsigned_abs (values_of at)) (map unsigned_abs (values_of at)) ≡ Equal = nats_themselves (map unsigned_abs (values_of at)) in
+    five ranks points axes sides sizes
+  where
+    five : {a b c d e : Ordering} → a ≡ Equal → b ≡ Equal → c ≡ Equal → d ≡ Equal → e ≡ Equal → ordering_then a (ordering_then b (ordering_then c (ordering_then d e))) ≡ Equal
+    five {a} {b} {c} {d} {e} p q r s t =
+        ap (λ (o : Ordering). ordering_then o (ordering_then b (ordering_then c (ordering_then d e)))) p
+        ∙ (ap (λ (o : Ordering). ordering_then o (ordering_then c (ordering_then d e))) q
+        ∙ (ap (λ (o : Ordering). ordering_then o (ordering_then d e)) r
+        ∙ (ap (λ (o : Ordering). ordering_then o e) s ∙ t)))
+
+-- and one that is before another has no more axes
+first_key : (a b : ℕ) (o : Ordering) → ordering_then (nat_cmp a b) o ≡ Less → a ≤ b
+first_key a b o less = grind arith
+
+compare_later : (all : List (List ℤ)) (a b : List ℤ) → compare_masters all a b ≡ Less → length a ≡ length b → IsLater a b
+compare_later all a b less same = (
+  first_key (rank a) (rank b) (ordering_then (nat_cmp (points_from all 0 b) (points_from all 0 a)) (ordering_then (slice_cmp nat_cmp (axes_from 0 a) (axes_from 0 b)) (ordering_then (slice_cmp nat_cmp (map side (values_of a)) (map side (values_of b))) (slice_cmp nat_cmp (map unsigned_abs (values_of a)) (map unsigned_abs (values_of b)))))) less,
+  same,
+  λ e. not_less (sym (compare_itself all a) ∙ (ap (λ (w : List ℤ). compare_masters all a w) e ∙ less)),
+)
+  where
+    not_less : Equal ≡ Less → ⊥
+    not_less e = cc
+
+later_each : (axes : ℕ) (all : List (List ℤ)) (at : List ℤ) (later : List (List ℤ)) → length at ≡ axes → AllByRecursion (λ other. length other ≡ axes) later → AllByRecursion (λ other. compare_masters all at other ≡ Less) later → AllByRecursion (λ other. IsLater at other) later
+later_each axes all at [] own same rising = tt
+later_each axes all at (other ∷ later) own same rising =
+    (compare_later all at other rising.0 (own ∙ sym same.0), later_each axes all at later own same.1 rising.1)
+
+later_all : (axes : ℕ) (all locations : List (List ℤ)) → AllByRecursion (λ at. length at ≡ axes) locations → RisesBy (compare_masters all) locations → AreLater locations
+later_all axes all [] same rising = tt
+later_all axes all (at ∷ later) same rising =
+    (later_each axes all at later same.0 same.1 rising.0, later_all axes all later same.1 rising.1)
+
+among_front : (at : List ℤ) (locations all : List (List ℤ)) → AreAmong locations all → AreAmong locations (at ∷ all)
+among_front at [] all here = tt
+among_front at (other ∷ others) all here = (inr here.0, among_front at others all here.1)
+
+all_among : (locations : List (List ℤ)) → AreAmong locations locations
+all_among [] = tt
+all_among (at ∷ later) = (inl refl, among_front at later later (all_among later))
+
+-- Masters in their order have the law.
+pub own_one_later_nothing : (axes : ℕ) (locations : List (List ℤ)) → AreMasters axes locations → AreTriangular (regions_of locations) locations
+own_one_later_nothing axes locations masters =
+    triangular_after locations [] locations (later_all axes locations locations masters.equal_lengths masters.rising) (all_among locations)

@@ -1,0 +1,4 @@
+pub mod MasterOrder
+pub mod Regions
+pub mod Places
+pub mod Laws
