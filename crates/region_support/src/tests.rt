@@ -164,20 +164,24 @@ fn more_axes(rt: HostRuntime) {
 // Half way to its peak a region counts half, and at its peak whole; another axis halves it again.
 #[test]
 fn influence(rt: HostRuntime) {
-    let none = axis(0, 0, 0);
-    let [wide, narrow] = [axis(0, 16384, 16384), axis(0, 8192, 16384)];
-    let support = ArrayVec::from([wide, narrow, none, none, none, none, none, none]);
-    assert_eq!(rt;
-        scalar::<16>(&support, &location(16384, 8192, 0)).raw(),
-        65536
-    );
-    assert_eq!(rt;
-        scalar::<16>(&support, &location(8192, 8192, 16384)).raw(),
-        32768
-    );
-    assert_eq!(rt;
-        scalar::<14>(&support, &location(8192, 12288, 0)).raw(),
-        4096
-    );
-    assert_eq!(rt; scalar::<14>(&support, &location(8192, 16384, 0)).raw(), 0);
+    let support = ArrayVec::from([
+        axis(0, 16384, 16384),
+        axis(0, 8192, 16384),
+        axis(0, 0, 0),
+        axis(0, 0, 0),
+        axis(0, 0, 0),
+        axis(0, 0, 0),
+        axis(0, 0, 0),
+        axis(0, 0, 0),
+    ]);
+    for (x, y, wanted) in [
+        (16384, 8192, 65536),
+        (8192, 8192, 32768),
+        (8192, 12288, 16384),
+        (8192, 16384, 0),
+    ] {
+        let at = location(x, y, 16384);
+        assert_eq!(rt; support.len(), at.len());
+        assert_eq!(rt; scalar::<16>(&support, &at).raw(), wanted);
+    }
 }
