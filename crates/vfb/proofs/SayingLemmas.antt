@@ -135,7 +135,7 @@ module _ {X Y Z V E : Type 0}
   IsSaid-with_line told told_said =
       subst (IsSaid command (sources x) (HasRisen (say_faults z) (say_faults z'')) (said z) (said z'')) (sym is)
       (IsSaid-from (rises_early (say_faults z) (say_faults z') (say_faults z'') says.counted) (rises_late (say_faults z) (say_faults z') (say_faults z'') does.counted)
-      command (sources x) (said z) (said z') (said z'') ending (does.answer told) (does.says told told_said) (adds told_said))
+      command (sources x) (said z) (said z') (said z'') ending (does.answer told) (does.said_itself told told_said) (adds told_said))
 
   pub IsCut-with_line : tells x → tells_outputs y → tells_said z → state ≡ status.WriteFault
       → IsCut command (sources x) (HasRisen (say_faults z) (say_faults z'')) (outputs y) (outputs y') (said z) (said z'')

@@ -44,7 +44,8 @@ IsCutItself (Some command) files risen old new said_old said_new ending =
     FailsItself command (drawings_of files command) risen old new said_old said_new ending
 
 -- X is the sources, Y the outputs and Z the place where text is said, each old as the call begins and new as it
--- ends. Their members are those of Sources, Outputs and Say.
+-- ends. Their members are those of Sources, Outputs and Say. The fields are named as the clauses of `run` that rest on
+-- them; the last two serve the line that is said after the command.
 pub record Performs {X Y Z : Type 0}
     (tells : X → Type 0) (sources : X → Files) (read_faults : X → ℕ) (reads_surely : X → Type 0)
     (tells_outputs : Y → Type 0) (outputs : Y → Files) (write_faults : Y → ℕ) (writes_surely : Y → Type 0) (room : Y → List ℕ → Option ℕ)
@@ -57,9 +58,9 @@ pub record Performs {X Y Z : Type 0}
   pub same : sources x' ≡ sources x
   pub unwritten : WritesNothing (status_of ending) → outputs y' ≡ outputs y
   pub written : tells x → tells_outputs y → IsWritten command (sources x) (outputs y) (outputs y') (status_of ending)
-  pub says : tells x → tells_said z → IsSaidItself command (sources x) (HasRisen (say_faults z) (say_faults z')) (said z) (said z') ending
+  pub said_itself : tells x → tells_said z → IsSaidItself command (sources x) (HasRisen (say_faults z) (say_faults z')) (said z) (said z') ending
   pub cut : tells x → tells_outputs y → tells_said z → IsCutItself command (sources x) (HasRisen (say_faults z) (say_faults z')) (outputs y) (outputs y') (said z) (said z') ending
   pub draws : tells x → tells_outputs y → status_of ending ≡ status.Ok → Draws command (sources x) (outputs y')
-  pub room_lacks : tells x → reads_surely x → tells_outputs y → writes_surely y → tells_said z → says_surely z → HasDrawings command (sources x) → EndsBy (LacksRoom command (sources x) (room y) (say_room z) (said z)) (status_of ending)
+  pub complete_sure : tells x → reads_surely x → tells_outputs y → writes_surely y → tells_said z → says_surely z → HasDrawings command (sources x) → EndsBy (LacksRoom command (sources x) (room y) (say_room z) (said z)) (status_of ending)
   pub told : tells_said z → tells_said z'
   pub counted : say_faults z ≤ say_faults z'

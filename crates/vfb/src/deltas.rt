@@ -13,6 +13,9 @@ use std::alloc::Global;
 /// The end of the axis, as an F2DOT14.
 const PEAK: i16 = 16_384;
 
+/// The phantom points that a glyph has behind its outline's (OpenType, "glyf").
+const PHANTOM_POINTS: usize = 4;
+
 /// The variation data of a glyph, and what they hold.
 #[derive(Drop)]
 pub(crate) struct GlyphData {
@@ -102,7 +105,7 @@ pub(crate) fn data_of(
             points: 0,
         });
     }
-    let points = deltas.len() as u64 - 4;
+    let points = (deltas.len() - PHANTOM_POINTS) as u64;
     Ok(GlyphData {
         bytes: all_points(alloc, PEAK, &deltas)?,
         tuples: 1,

@@ -21,10 +21,10 @@ returns g c =
       same = search rules;
       unwritten = search rules;
       written = λ told tells. Writes-whole c.in-Ok.drawings (reads.gives told) out _ _ _ glyph.bytes (whole tells);
-      says = λ told tells. SaysItself-dash c.in-Ok.drawings (reads.gives told) (asked c.args.command.now) (g.S.Sources.files c.args.sources.now) _ _ _ refl (says tells);
+      said_itself = λ told tells. SaysItself-dash c.in-Ok.drawings (reads.gives told) (asked c.args.command.now) (g.S.Sources.files c.args.sources.now) _ _ _ refl (says tells);
       cut = λ told tells_outputs tells. FailsItself-dash c.in-Ok.drawings (reads.gives told) (asked c.args.command.now) _ _ _ _ _ _ refl glyph.bytes (whole tells_outputs) (says tells);
       draws = search rules;
-      room_lacks = λ told sure tells_outputs writes_surely tells says_surely has.
+      complete_sure = λ told sure tells_outputs writes_surely tells says_surely has.
           Overflows-saying c.in-Ok.drawings (reads.gives told) _ _ _ _ glyph.counts (say.full says_surely tells);
       told = search rules;
       counted = search rules;
