@@ -1,9 +1,9 @@
 -- What the data draw: the line from each place of the first drawing to that of the second.
-use Rattle.std.proofs.Common.{◌≡◌, ℕ, ℤ, pos, ◌+◌, ◌<◌, ◌≤◌, ◌+ℤ◌, ◌-ℤ◌, ◌*ℤ◌, Bool, true, false, ◌&&◌, List, [], ◌∷◌, length, map, take, sum, get_or, refl, sym, ◌∙◌, ap, subst, arith, inl}
+use Rattle.std.proofs.Common.{◌≡◌, ℕ, ℤ, pos, ◌+◌, ◌<◌, ◌+ℤ◌, ◌-ℤ◌, ◌*ℤ◌, true, false, List, [], ◌∷◌, length, map, take, get_or, refl, sym, ◌∙◌, ap, subst, arith, inl}
 use Rattle.std.proofs.Math.IntN.{*ℤ-zero, +ℤ_idr}
 use Rattle.std.proofs.lemmas.Bool.{and_parts}
 use Rattle.std.proofs.lemmas.Bool.Decides.{Decides-int_eq}
-use Rattle.std.proofs.lemmas.List.{length-map, length-take, get_or-map, get_or-take}
+use Rattle.std.proofs.lemmas.List.{length-map, get_or-map, get_or-take}
 use Rattle.std.proofs.lemmas.List.Sums.{AllPass-from_list_all}
 use Rattle.std.specs.Ordering.{int_eq}
 use Rattle.fixpoint.specs.declared.plane.Pair.{Pair}
@@ -11,9 +11,7 @@ use Rattle.glif.specs.declared.shape.Drawing.{Drawing}
 use Rattle.variation_rules.specs.InferredDelta.{still}
 use Rattle.variation_rules.specs.TupleVariations.{MeansTuples, plain_triple}
 use Rattle.variation_rules.specs.PackedPoints.{count_from}
-use Rattle.variation_rules.specs.DrawnOutline.{drawn, drawn_advance}
 use Rattle.variation_rules.specs.Scalar.{scalar_of}
-use Rattle.variation_rules.specs.declared.tuple.TupleVariation.{TupleVariation}
 use Rattle.variation_rules.proofs.DrawingLemmas.{fills_all_named, drawn_of_none, drawn_of_one, drawn_advance_of_none, drawn_advance_all_named}
 use Rattle.gvar_table.specs.OneTuple.{all_points_tuple}
 use Rattle.vfb.specs.Compatible.{AreCompatible}

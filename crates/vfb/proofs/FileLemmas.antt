@@ -1,7 +1,7 @@
 -- What files hold after one is begun and written.
-use Rattle.std.proofs.Common.{◌≡◌, ℕ, ◌≤◌, Bool, true, false, Option, Some, None, List, [], ◌++◌, length, Result, Ok, Err, OnOk, OnErr, refl, sym, ◌∙◌, ap, subst, arith, bytes_eq, if◌then◌else◌}
+use Rattle.std.proofs.Common.{◌≡◌, ℕ, ◌≤◌, Bool, true, false, Option, Some, List, [], ◌++◌, length, Result, Ok, Err, OnOk, OnErr, refl, ◌∙◌, ap, subst, arith, bytes_eq, if◌then◌else◌}
 use Rattle.std.proofs.lemmas.Slice.Eq.{bytes_eq-Decides}
-use Rattle.outside.specs.Files.{Files, put, content, add, Counts, HasRisen, Exceeds}
+use Rattle.outside.specs.Files.{Files, put, content, add, Counts, Exceeds}
 
 pub bytes_eq-same : (path : List ℕ) → bytes_eq path path ≡ true
 bytes_eq-same path = (bytes_eq-Decides path path).1 refl

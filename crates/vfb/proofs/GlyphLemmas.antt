@@ -1,5 +1,5 @@
 -- The points of drawings, the ways between them, and the deltas.
-use Rattle.std.proofs.Common.{◌≡◌, ℕ, ℤ, zero, suc, pos, ◌+◌, ◌<◌, ◌≤◌, ◌-ℤ◌, ◌≤ℤ◌, min, List, [], ◌∷◌, ◌++◌, length, map, take, drop, flat_map, All, sum, get_or, refl, sym, ◌∙◌, ap, arith, append_assoc, append-nil, drop-cons, add-one, length-append, inl, inr}
+use Rattle.std.proofs.Common.{◌≡◌, ℕ, ℤ, zero, suc, pos, ◌+◌, ◌<◌, ◌≤◌, ◌-ℤ◌, ◌≤ℤ◌, min, List, [], ◌∷◌, ◌++◌, length, map, drop, flat_map, All, sum, get_or, refl, sym, ◌∙◌, ap, arith, append_assoc, drop-cons, add-one, length-append, inl, inr}
 use Rattle.std.proofs.Math.ListN.{drop_of_length-le}
 use Rattle.std.proofs.lemmas.Bool.{cases_lt}
 use Rattle.std.proofs.lemmas.Int.{ints}

@@ -1,5 +1,5 @@
 -- What a command leaves behind where saying failed after its file was written.
-use Rattle.std.proofs.Common.{◌≡◌, ℕ, ◌+◌, ◌<◌, ◌⊎◌, List, [], ◌++◌, length, codes, Bor, Option, Result, Ok, Err, refl, sym, ◌∙◌, ap, subst, inl, inr, append_assoc, append-nil}
+use Rattle.std.proofs.Common.{◌≡◌, ℕ, ◌+◌, ◌<◌, List, [], ◌++◌, length, codes, Bor, Option, Result, Ok, sym, ◌∙◌, ap, subst, inr, append_assoc, append-nil}
 use Rattle.std.proofs.lemmas.List.{append_cancel_left}
 use Rattle.outside.specs.Files.{Files, put, IsFront}
 use Rattle.outside.specs.declared.fault.Fault.{Fault}
@@ -7,10 +7,9 @@ use Rattle.glif.specs.declared.shape.Drawing.{Drawing}
 use Rattle.vfb.specs.Command.{Tuples}
 use Rattle.vfb.specs.Glyph.{IsData}
 use Rattle.vfb.specs.Lines.{summary}
-use Rattle.vfb.specs.Outcome.{IsCutShort, Writes, Overflows}
+use Rattle.vfb.specs.Outcome.{Writes, Overflows}
 use Rattle.vfb.specs.Performing.{SaysFront, SaysItself, FailsItself}
 use Rattle.vfb.specs.declared.status.Status.TheVariants as status
-use Rattle.vfb.specs.declared.ending.Ending.{Ending}
 use Rattle.vfb.specs.declared.ending.Ending.TheVariants.{WriteFault}
 
 -- between what was said and that with the whole text, a front of the text was said

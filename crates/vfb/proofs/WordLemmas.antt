@@ -1,5 +1,5 @@
 -- Words that end in a place.
-use Rattle.std.proofs.Common.{◌≡◌, ℕ, ◌+◌, ◌-◌, ◌≢◌, Bool, true, false, List, ◌++◌, length, take, drop, Option, Some, None, Bor, MatchOption, refl, sym, ◌∙◌, ap, arith, option_map, bytes_eq, length-append}
+use Rattle.std.proofs.Common.{◌≡◌, ℕ, ◌+◌, ◌-◌, ◌≢◌, false, List, ◌++◌, length, take, drop, Option, Some, None, Bor, MatchOption, sym, ◌∙◌, ap, arith, option_map, bytes_eq}
 use Rattle.std.specs.Str.Pattern.{FindsTextSuffix, StripsSuffix}
 use Rattle.std.proofs.lemmas.Bool.{false_from_ne_true}
 use Rattle.std.proofs.lemmas.List.{take-append-drop}

@@ -1,5 +1,5 @@
 -- How a run ends: its status, what the files hold afterwards, and what was said.
-use Rattle.std.specs.Prelude.{◌≡◌, ℕ, ◌+◌, ◌<◌, ◌⊎◌, List, [], ◌++◌, length, codes, Option, Some, None, Result, Ok, Err, IsOk}
+use Rattle.std.specs.Prelude.{◌≡◌, ℕ, ◌+◌, ◌<◌, ◌⊎◌, List, ◌++◌, length, codes, Option, Some, None, Result, Ok, Err, IsOk}
 use Rattle.outside.specs.Files.{Files, put, content, IsFront, Exceeds}
 use Rattle.outside.specs.declared.fault.Fault.{Fault}
 use Rattle.glif.specs.declared.shape.Drawing.{Drawing}

@@ -1,5 +1,5 @@
 -- How reading the drawings of a command may stop, and what it makes of the sources.
-use Rattle.std.specs.Prelude.{◌≡◌, ℕ, ◌≤◌, List, Result, Ok, Err}
+use Rattle.std.specs.Prelude.{◌≡◌, ℕ, ◌≤◌, List, Result, Err}
 use Rattle.outside.specs.Files.{Files, HasRisen}
 use Rattle.outside.specs.Reading.{GivesBy}
 use Rattle.outside.specs.declared.fault.Fault.{Fault}

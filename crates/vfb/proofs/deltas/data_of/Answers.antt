@@ -1,8 +1,8 @@
-use Rattle.std.proofs.Common.{◌≡◌, ℕ, ℤ, pos, ◌+◌, ◌-◌, ◌≤◌, Bool, true, false, List, [], ◌∷◌, length, All, sym, ◌∙◌, ap, subst, arith}
+use Rattle.std.proofs.Common.{ℤ, pos, List, [], ◌∷◌, length, All, sym, ◌∙◌, ap, subst, arith}
 use Rattle.std.specs.List.{list_all}
 use Rattle.variation_rules.specs.TupleVariations.{MeansTuples}
 use Rattle.gvar_table.specs.OneTuple.{IsDelta, all_points_tuple}
-use Rattle.vfb.specs.Glyph.{points_of, deltas_of, is_still}
+use Rattle.vfb.specs.Glyph.{is_still}
 use Rattle.vfb.proofs.DrawLemmas.{draws_still, draws_moving, summary_moving}
 use Rattle.vfb.proofs.GlyphLemmas.{few_points, length-deltas_of, deltas_within}
 use Rattle.vfb.proofs.deltas.data_of.Goals as goal

@@ -1,4 +1,4 @@
-use Rattle.std.proofs.Common.{◌≡◌, ◌+◌, ◌-ℤ◌, List, [], ◌∷◌, ◌++◌, length, map, drop, sym, ◌∙◌, ap, arith, length-append, append-nil}
+use Rattle.std.proofs.Common.{◌≡◌, ◌+◌, ◌-ℤ◌, [], ◌∷◌, ◌++◌, length, map, drop, sym, ◌∙◌, ap, length-append, append-nil}
 use Rattle.std.proofs.lemmas.Slice.Zip.{zip_turn, zip_end}
 use Rattle.vfb.specs.Glyph.{place, moves}
 use Rattle.vfb.proofs.GlyphLemmas.{moves-step, moves-end}
