@@ -1,6 +1,6 @@
 /// Two whole numbers of the plane, as the place of a point or a delta: x to the right and y up, in
 /// font design units.
-#[derive(Clone, Copy, Debug, PartialEq, Eq)]
+#[derive(Clone, Copy, Debug, Default, PartialEq, Eq)]
 pub struct Pair {
     /// The horizontal number.
     pub x: i32,

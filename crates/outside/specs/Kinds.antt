@@ -1,8 +1,14 @@
 -- The names of the kinds of refusal, as they are said.
 use Rattle.std.specs.Prelude.{ℕ, List, codes}
 use Rattle.outside.specs.declared.fault.Kind.{Kind}
-use Rattle.outside.specs.declared.fault.Kind.TheVariants.{MissingFile, NotBuilt}
+use Rattle.outside.specs.declared.fault.Kind.TheVariants.{MissingFile, Unfinished, BadText, TooDeep, NoDefaultSource, SameLocation, DeltaRange, NotBuilt}
 
 abbrev pub kind_name : Kind → List ℕ
 kind_name MissingFile = codes "MissingFile"
+kind_name Unfinished = codes "Unfinished"
+kind_name BadText = codes "BadText"
+kind_name TooDeep = codes "TooDeep"
+kind_name NoDefaultSource = codes "NoDefaultSource"
+kind_name SameLocation = codes "SameLocation"
+kind_name DeltaRange = codes "DeltaRange"
 kind_name NotBuilt = codes "NotBuilt"

@@ -9,6 +9,18 @@ use std::alloc::{AllocError, AllocFailed};
 pub enum Kind {
     /// A file is named that isn't there.
     MissingFile = 1,
+    /// A source text ends inside something, or before its root element ends.
+    Unfinished = 3,
+    /// A part of a source text isn't of the form that it begins with, or may not stand where it stands.
+    BadText = 4,
+    /// A source text has more than 64 elements one in another.
+    TooDeep = 5,
+    /// No source stands at the default of every axis.
+    NoDefaultSource = 44,
+    /// Two sources stand at one location.
+    SameLocation = 45,
+    /// A delta doesn't fit 16 bits.
+    DeltaRange = 58,
     /// A file is there, and is no drawing of the form that is read so far.
     NotBuilt = 62,
 }
@@ -20,6 +32,12 @@ impl Kind {
     {
         match self {
             Kind::MissingFile => "MissingFile",
+            Kind::Unfinished => "Unfinished",
+            Kind::BadText => "BadText",
+            Kind::TooDeep => "TooDeep",
+            Kind::NoDefaultSource => "NoDefaultSource",
+            Kind::SameLocation => "SameLocation",
+            Kind::DeltaRange => "DeltaRange",
             Kind::NotBuilt => "NotBuilt",
         }
     }

@@ -1,4 +1,5 @@
 pub mod MasterOrder
+pub mod Sorting
 pub mod Regions
 pub mod Places
 pub mod Laws

@@ -5,6 +5,7 @@ mod cut;
 mod first;
 mod influence;
 mod laws;
+mod order;
 mod support;
 #[cfg(test)]
 mod tests;
@@ -13,6 +14,7 @@ use arrayvec::ArrayVec;
 use fixpoint::Fix;
 pub use influence::scalar;
 pub use laws::own_one_later_nothing;
+pub use order::ModelStop;
 pub use variation_rules::Triple;
 
 /// A place in the design space: one normalised coordinate an axis (F2DOT14), in the font's order of axes, at

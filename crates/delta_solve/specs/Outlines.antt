@@ -1,0 +1,35 @@
+-- What the outlines of a glyph's masters are compared and computed by.
+use Rattle.std.specs.Prelude.{◌≡◌, ℕ, ℤ, Bool, List, length, map, flat_map, slice_index_or}
+use Rattle.fixpoint.specs.declared.plane.Pair.{Pair}
+use Rattle.glif.specs.declared.shape.Point.{Point}
+use Rattle.glif.specs.declared.shape.Outline.{Outline}
+use Rattle.variation_rules.specs.InferredDelta.{still}
+
+-- where a point is
+abbrev pub place : Point → Pair
+place point = record { x = point.x; y = point.y }
+
+-- all points of an outline, contour by contour
+abbrev pub all_points : Outline → List Point
+all_points outline = flat_map (λ contour. contour) outline.contours
+
+abbrev pub points_of : Outline → List Pair
+points_of outline = map place (all_points outline)
+
+-- how many points each contour has
+abbrev pub contour_lengths : Outline → List ℕ
+contour_lengths outline = map length outline.contours
+
+-- which points of each contour are on the curve
+abbrev pub contour_kinds : Outline → List (List Bool)
+contour_kinds outline = map (λ contour. map (λ (point : Point). point.on) contour) outline.contours
+
+-- the coordinates of the point of this number
+abbrev pub x_of : ℕ → Outline → ℤ
+x_of point outline = (slice_index_or (points_of outline) point still).x
+
+abbrev pub y_of : ℕ → Outline → ℤ
+y_of point outline = (slice_index_or (points_of outline) point still).y
+
+abbrev pub advance_of : Outline → ℤ
+advance_of outline = outline.advance
