@@ -1,4 +1,5 @@
 pub mod AxisLemmas
+pub mod OrderLemmas
 pub mod BoxLemmas
 pub mod RegionLaw
 pub mod RangeLemmas

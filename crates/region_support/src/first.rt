@@ -1,6 +1,7 @@
 ghost use Rattle.std.specs.Prelude.{◌≡◌, length};
+ghost use Rattle.region_support.specs.MasterOrder.{value_on};
 ghost use Rattle.region_support.specs.Places.{places_of};
-ghost use Rattle.region_support.specs.Regions.{value_on, least_on, greatest_on, first_triple, first_from};
+ghost use Rattle.region_support.specs.Regions.{least_on, greatest_on, first_triple, first_from};
 
 use crate::Location;
 use fixpoint::Fix;

@@ -15,6 +15,7 @@ use fixpoint::Fix;
 pub use influence::scalar;
 pub use laws::own_one_later_nothing;
 pub use order::ModelStop;
+pub use support::boxes;
 pub use variation_rules::Triple;
 
 /// A place in the design space: one normalised coordinate an axis (F2DOT14), in the font's order of axes, at

@@ -1,6 +1,6 @@
 use crate::Location;
 use crate::influence::scalar;
-use crate::support::write_region;
+use crate::support::boxes;
 use arrayvec::ArrayVec;
 use fixpoint::Fix;
 use std::alloc::{AllocError, Global};
