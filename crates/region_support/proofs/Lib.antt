@@ -1,5 +1,7 @@
 pub mod AxisLemmas
 pub mod OrderLemmas
 pub mod BoxLemmas
+pub mod SortLemmas
+pub mod KeyLemmas
 pub mod RegionLaw
 pub mod RangeLemmas

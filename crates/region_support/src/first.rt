@@ -7,8 +7,8 @@ use crate::Location;
 use fixpoint::Fix;
 use variation_rules::Triple;
 
-// The location's value on an axis.
-fn value_on(location: &Location, axis: usize) -> i32
+/// The location's value on an axis.
+pub(crate) fn value_on(location: &Location, axis: usize) -> i32
     ensures { result ≡ value_on axis location.now.items }
 {
     match location.as_slice().get(axis) {
