@@ -109,8 +109,7 @@ own_from before (at ∷ more) =
     let joined : (before ++ (at ∷ [])) ++ more ≡ before ++ (at ∷ more) = append_assoc before (at ∷ []) more in
     let counted : length (before ++ (at ∷ [])) ≡ length before + 1 = length_more before at in
     let P : List (List ℤ) × ℕ → Type 0 = λ p. AllByRecursion (IsOwn p.0) (keys_from p.0 p.1 more) in
-    let both : ◌≡◌ {A = List (List ℤ) × ℕ} ((before ++ (at ∷ [])) ++ more, length (before ++ (at ∷ []))) (before ++ (at ∷ more), length before + 1) = λ i. (joined i, counted i) in
-    (
+    let both : ◌≡◌ {A = List (List ℤ) × ℕ} ((before ++ (at ∷ [])) ++ more, length (before ++ (at ∷ []))) (before ++ (at ∷ more), length before + 1) = λ i. (joined i, counted i) in (
       ap (λ (w : List ℤ). key_of (before ++ (at ∷ more)) (length before) w) (sym (place_behind before at more)),
       subst P both (own_from (before ++ (at ∷ [])) more),
     )
@@ -145,11 +144,11 @@ pub keys_order : (all : List (List ℤ)) (sorted : List Key) → AllByRecursion 
 keys_order all sorted same none moved in_order =
     let found = fault_none all none in
     let numbers : IsPermutation (count_from (length all) 0) (map (λ (k : Key). k.number) sorted) =
-      subst (λ (l : List ℕ). IsPermutation l (map (λ (k : Key). k.number) sorted)) (numbers_from all 0 all) (IsPermutation-map (λ (k : Key). k.number) (keys_from all 0 all) sorted moved) in
+    subst (λ (l : List ℕ). IsPermutation l (map (λ (k : Key). k.number) sorted)) (numbers_from all 0 all) (IsPermutation-map (λ (k : Key). k.number) (keys_from all 0 all) sorted moved) in
     let own : AllByRecursion (IsOwn all) sorted =
-      recursion_from_All (IsOwn all) sorted (All-permutation (IsOwn all) (keys_from all 0 all) sorted moved (All-from_recursion (IsOwn all) (keys_from all 0 all) (own_from [] all))) in
+    recursion_from_All (IsOwn all) sorted (All-permutation (IsOwn all) (keys_from all 0 all) sorted moved (All-from_recursion (IsOwn all) (keys_from all 0 all) (own_from [] all))) in
     is_order all (map (λ (k : Key). k.number) sorted) same found.0 numbers
-      (rises all sorted own (are_sorted sorted in_order) (apart_moved all (axes_of all) (map (λ (k : Key). k.number) sorted) same found.1 numbers))
+    (rises all sorted own (are_sorted sorted in_order) (apart_moved all (axes_of all) (map (λ (k : Key). k.number) sorted) same found.1 numbers))
 
 -- and so they are those of the definition
 pub order_value : (all : List (List ℤ)) (ns : List ℕ) → AllByRecursion (λ at. length at ≡ axes_of all) all → model_fault all ≡ None → IsOrder all ns → ns ≡ order_of all

@@ -131,7 +131,7 @@ compare_equal all a b same tie =
     let fourth = then_equal axes (ordering_then sides sizes) third in
     let fifth = then_equal sides sizes fourth.1 in
     place_is 0 a b same (exact_bytes (axes_from 0 a) (axes_from 0 b) fourth.0)
-      (values_are (values_of a) (values_of b) (bools_equal (map is_above (values_of a)) (map is_above (values_of b)) fifth.0) (exact_bytes (map unsigned_abs (values_of a)) (map unsigned_abs (values_of b)) fifth.1))
+    (values_are (values_of a) (values_of b) (bools_equal (map is_above (values_of a)) (map is_above (values_of b)) fifth.0) (exact_bytes (map unsigned_abs (values_of a)) (map unsigned_abs (values_of b)) fifth.1))
 
 -- the order of two locations doesn't depend on how the masters are listed
 points_permuted : (ps qs : List (List ℤ)) → IsPermutation ps qs → (axis : ℕ) (at : List ℤ) → points_from ps axis at ≡ points_from qs axis at
@@ -146,7 +146,7 @@ compare_permuted ps qs moved a b =
     let left = points_permuted ps qs moved 0 a in
     let right = points_permuted ps qs moved 0 b in
     λ i. ordering_then (nat_cmp (rank a) (rank b))
-      (ordering_then (nat_cmp (right i) (left i))
-      (ordering_then (slice_cmp nat_cmp (axes_from 0 a) (axes_from 0 b))
-      (ordering_then (slice_cmp bool_cmp (map is_above (values_of a)) (map is_above (values_of b)))
-      (slice_cmp nat_cmp (map unsigned_abs (values_of a)) (map unsigned_abs (values_of b))))))
+    (ordering_then (nat_cmp (right i) (left i))
+    (ordering_then (slice_cmp nat_cmp (axes_from 0 a) (axes_from 0 b))
+    (ordering_then (slice_cmp bool_cmp (map is_above (values_of a)) (map is_above (values_of b)))
+    (slice_cmp nat_cmp (map unsigned_abs (values_of a)) (map unsigned_abs (values_of b))))))

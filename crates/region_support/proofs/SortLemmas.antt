@@ -91,7 +91,7 @@ with_moves : (all : List (List ℤ)) (n : ℕ) (os : List ℕ) → IsPermutation
 with_moves all n [] = IsPermutation-refl (n ∷ [])
 with_moves all n (o ∷ os) =
     either_way (λ (l : List ℕ). IsPermutation (n ∷ o ∷ os) l) (is_before all n o) (n ∷ o ∷ os) (o ∷ with_number all n os) (IsPermutation-refl (n ∷ o ∷ os))
-      (IsPermutation-trans (n ∷ o ∷ os) (o ∷ n ∷ os) (o ∷ with_number all n os) (exchanged n o os) (IsPermutation-cons o (n ∷ os) (with_number all n os) (with_moves all n os)))
+    (IsPermutation-trans (n ∷ o ∷ os) (o ∷ n ∷ os) (o ∷ with_number all n os) (exchanged n o os) (IsPermutation-cons o (n ∷ os) (with_number all n os) (with_moves all n os)))
 
 sorted_moves : (all : List (List ℤ)) (ns : List ℕ) → IsPermutation ns (sorted_numbers all ns)
 sorted_moves all [] = IsPermutation-refl []
@@ -110,7 +110,7 @@ places_behind before (at ∷ more) =
     let joined : (before ++ (at ∷ [])) ++ more ≡ before ++ (at ∷ more) = append_assoc before (at ∷ []) more in
     let counted : length (before ++ (at ∷ [])) ≡ length before + 1 = length_more before at in
     let rest : map (place_at (before ++ (at ∷ more))) (count_from (length more) (length before + 1)) ≡ more =
-      sym (λ i. map (place_at (joined i)) (count_from (length more) (counted i))) ∙ places_behind (before ++ (at ∷ [])) more in
+    sym (λ i. map (place_at (joined i)) (count_from (length more) (counted i))) ∙ places_behind (before ++ (at ∷ [])) more in
     λ i. head i ∷ rest i
   where
     length_more : (xs : List (List ℤ)) (x : List ℤ) → length (xs ++ (x ∷ [])) ≡ length xs + 1
@@ -255,10 +255,10 @@ pub one_order : (all : List (List ℤ)) (ns ms : List ℕ) → IsOrder all ns �
 one_order all ns ms first second =
     let moved = IsPermutation-trans ns (count_from (length all) 0) ms (IsPermutation-sym (count_from (length all) 0) ns first.all) second.all in
     rising_same all ns ms
-      (numbers_rise all (compare_masters (places_at all ns)) (compare_permuted all (places_at all ns) (places_moved all ns first.all)) ns first.rising.rising)
-      (numbers_rise all (compare_masters (places_at all ms)) (compare_permuted all (places_at all ms) (places_moved all ms second.all)) ms second.rising.rising)
-      (in_moved ns ms moved)
-      (in_moved ms ns (IsPermutation-sym ns ms moved))
+    (numbers_rise all (compare_masters (places_at all ns)) (compare_permuted all (places_at all ns) (places_moved all ns first.all)) ns first.rising.rising)
+    (numbers_rise all (compare_masters (places_at all ms)) (compare_permuted all (places_at all ms) (places_moved all ms second.all)) ms second.rising.rising)
+    (in_moved ns ms moved)
+    (in_moved ms ns (IsPermutation-sym ns ms moved))
 
 -- where no location repeats an earlier one, all are different
 position_none : (p : List ℤ → Bool) (n : ℕ) (xs : List (List ℤ)) → position_from p n xs ≡ None → AllByRecursion (λ x. p x ≡ false) xs
@@ -322,7 +322,7 @@ pub apart_moved : (all : List (List ℤ)) (axes : ℕ) (ns : List ℕ) → AllBy
 apart_moved all axes ns same none moved =
     let places = places_moved all ns moved in
     apart all axes ns (lengths_moved axes all (places_at all ns) places same)
-      (IsDistinct-IsPermutation is_same_place (λ x y. (lists_equiv int_eq_equiv).symm x y) all (places_at all ns) places (places_differ all none))
+    (IsDistinct-IsPermutation is_same_place (λ x y. (lists_equiv int_eq_equiv).symm x y) all (places_at all ns) places (places_differ all none))
 
 -- The definition's numbers are the order, where there is one.
 pub order_is : (all : List (List ℤ)) → AllByRecursion (λ at. length at ≡ axes_of all) all → list_any is_default all ≡ true → first_repeat [] all ≡ None → IsOrder all (order_of all)

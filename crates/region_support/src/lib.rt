@@ -15,7 +15,7 @@ use arrayvec::ArrayVec;
 use fixpoint::Fix;
 pub use influence::scalar;
 pub use laws::{keys_tell_apart, one_order, own_one_later_nothing};
-pub use sorting::{ModelStop, order};
+pub use sorting::{ModelStop, in_order, order};
 pub use support::boxes;
 pub use variation_rules::Triple;
 

@@ -1,9 +1,10 @@
 ghost use Rattle.std.specs.Prelude.{◌≡◌, ◌≢◌, ◌≤◌, [], length, position, Some, None, All, IfOk, IfErr};
 ghost use Rattle.std.specs.List.{list_any};
 ghost use Rattle.arrayvec.specs.ArrayVec.{array_vec_len};
-ghost use Rattle.region_support.specs.MasterOrder.{is_default, axes_of};
+ghost use Rattle.region_support.specs.MasterOrder.{is_default, axes_of, AreMasters};
 ghost use Rattle.region_support.specs.Places.{places_of};
-ghost use Rattle.region_support.specs.Sorting.{is_same_place, first_repeat, model_fault, order_of, IsOrder};
+ghost use Rattle.region_support.specs.Regions.{AreNormalisedPlaces};
+ghost use Rattle.region_support.specs.Sorting.{is_same_place, first_repeat, model_fault, order_of, IsOrder, places_at};
 
 use crate::Location;
 use crate::key::key_of;
@@ -123,4 +124,27 @@ pub fn order(alloc: Global, locations: &Seq<Location>) -> Result<Seq<u32>, Model
     }
     let numbers = sorted_numbers(alloc, locations)?;
     Ok(numbers)
+}
+
+/// Copies of the locations in their order, which is what `boxes` takes.
+pub fn in_order(
+    alloc: Global,
+    locations: &Seq<Location>,
+    order: &Seq<u32>,
+) -> Result<Seq<Location>, NoMemory>
+    requires { IsOrder (places_of locations.now) order.now }
+    ensures value { IfOk result (λ sorted. places_of sorted ≡ places_at (places_of locations.now) order.now) }
+    ensures masters { IfOk result (λ sorted. AreMasters (axes_of (places_of sorted)) (places_of sorted)) }
+    ensures axes { IfOk result (λ sorted. axes_of (places_of sorted) ≡ axes_of (places_of locations.now)) }
+    ensures count { IfOk result (λ sorted. length sorted ≡ length locations.now) }
+    ensures normalised { IfOk result (λ sorted. AreNormalisedPlaces (places_of locations.now) → AreNormalisedPlaces (places_of sorted)) }
+{
+    let locations = locations.as_slice();
+    let numbers = order.as_slice();
+    let mut sorted = Seq::new(alloc);
+    for number in numbers {
+        let at = locations[*number as usize].clone()?;
+        sorted.push(at)?;
+    }
+    Ok(sorted)
 }

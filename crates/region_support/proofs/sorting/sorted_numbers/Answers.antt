@@ -12,9 +12,9 @@ pub returns : goal.returns
 returns c =
     let places = places_of c.args.locations.now in
     let all_keys : c.loop-number.keys.items ≡ keys_from places 0 places =
-      sym (append-nil c.loop-number.keys.items) ∙ (sym (ap (λ left. c.loop-number.keys.items ++ keys_from places c.loop-number.number (places_of left)) (drop_all c.loop-number.number c.args.locations.now (omega arith))) ∙ c.loop-number.invariant) in
+    sym (append-nil c.loop-number.keys.items) ∙ (sym (ap (λ left. c.loop-number.keys.items ++ keys_from places c.loop-number.number (places_of left)) (drop_all c.loop-number.number c.args.locations.now (omega arith))) ∙ c.loop-number.invariant) in
     let moved : IsPermutation (keys_from places 0 places) c.sort_unstable.new.self.items =
-      subst (λ (l : List Key). IsPermutation l c.sort_unstable.new.self.items) all_keys c.sort_unstable.ensures.permutation in
+    subst (λ (l : List Key). IsPermutation l c.sort_unstable.new.self.items) all_keys c.sort_unstable.ensures.permutation in
     let numbers : c.from_vec.result ≡ map (λ (k : Key). k.number) c.sort_unstable.new.self.items = search rules in
     subst (λ (ns : List ℕ). IsOrder places ns) (sym numbers)
-      (keys_order places c.sort_unstable.new.self.items (place_lengths (axes_of places) c.args.locations.now c.requires.lengths) c.requires.sound moved c.sort_unstable.ensures.sorted)
+    (keys_order places c.sort_unstable.new.self.items (place_lengths (axes_of places) c.args.locations.now c.requires.lengths) c.requires.sound moved c.sort_unstable.ensures.sorted)

@@ -29,7 +29,7 @@ returns-clause-lengths c =
     let value : regions_in c.loop-index.supports ≡ regions_of places = value_of c.loop-index.supports c.as_slice-masters.result.now c.args.sorted.now c.loop-index.index (omega arith) c.loop-index.invariant c.as_slice-masters.ensures in
     let P : List (List Triple) → Type 0 = AllByRecursion (λ region. length region ≡ axes_of places) in
     All-from_recursion (λ support. array_vec_len support ≡ axes_of places) c.loop-index.supports
-      (support_lengths (axes_of places) c.loop-index.supports (subst P (sym value) (same_lengths (axes_of places) places c.requires.masters)))
+    (support_lengths (axes_of places) c.loop-index.supports (subst P (sym value) (same_lengths (axes_of places) places c.requires.masters)))
 
 pub returns-clause-triangular : goal.returns-clause-triangular
 returns-clause-triangular c =
