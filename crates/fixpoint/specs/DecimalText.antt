@@ -1,8 +1,9 @@
 -- Decimal texts: a number as it is written, and which number that is.
 -- 43 is the plus sign, 45 the minus sign, 46 the point, and 48 the digit 0.
-use Rattle.std.specs.Prelude.{◌≡◌, ℕ, ◌+◌, ◌-◌, ◌*◌, ◌≤◌, ℤ, pos, neg_ℤ, int_le, Bool, true, false, ◌||◌, List, [], ◌∷◌, ◌++◌, length, codes, Option, Some, None, Result, Ok, Err, ◌==◌, nat_lt, if◌then◌else◌, IsTrue}
+use Rattle.std.specs.Prelude.{◌≡◌, ℕ, ◌+◌, ◌-◌, ◌*◌, ◌^◌, ◌≤◌, ℤ, pos, neg_ℤ, int_le, Bool, true, false, ◌||◌, List, [], ◌∷◌, ◌++◌, length, codes, take, replicate, Option, Some, None, Result, Ok, Err, ◌==◌, nat_lt, if◌then◌else◌, IsTrue}
 use Rattle.std.specs.List.{list_all}
 use Rattle.std.specs.Char.{is_ascii_digit}
+use Rattle.fixpoint.specs.Rounding.{round_up}
 use Rattle.fixpoint.specs.declared.decimal.NumberFault.{NumberFault}
 use Rattle.fixpoint.specs.declared.decimal.NumberFault.TheVariants.{NotNumber, NotWhole, NumberRange}
 
@@ -119,3 +120,20 @@ whole_by (Some number) = if list_all is_zero number.decimals then with_sign numb
 -- the whole number of a text, or why it has none
 abbrev pub whole_of : List ℕ → Result ℤ NumberFault
 whole_of text = whole_by (decimal_of text)
+
+-- the decimals, and zeros in the places where none is written
+unfoldable pub filled : List ℕ → List ℕ
+filled decimals = decimals ++ replicate 18 48
+
+-- the number without its sign, cut after 18 decimals, times 10^18
+unfoldable pub scaled : Decimal → ℕ
+scaled number = number_after 0 (number.whole ++ take 18 (filled number.decimals))
+
+-- the number nearest to it with 16 binary places, as its raw number, a tie going up in size
+unfoldable pub fix16_by : Option Decimal → Result ℤ NumberFault
+fix16_by None = Err NotNumber
+fix16_by (Some number) = with_sign number.is_negative (round_up (pos (scaled number * 65536)) (10 ^ 18))
+
+-- the raw number of a text's number with 16 binary places, or why it has none
+abbrev pub fix16_of : List ℕ → Result ℤ NumberFault
+fix16_of text = fix16_by (decimal_of text)

@@ -1,8 +1,11 @@
-ghost use Rattle.std.specs.Prelude.{◌≡◌, ◌↔◌, ℕ, pos, List, Some, min, length, ◌≤◌, ◌^◌, ◌+◌, ◌-◌, ◌*◌};
+ghost use Rattle.fixpoint.specs.Rounding.{round_up};
+ghost use Rattle.std.specs.Prelude.{take, slice_index_or, ◌≡◌, ◌↔◌, ℕ, pos, List, Some, min, length, ◌≤◌, ◌^◌, ◌+◌, ◌-◌, ◌*◌};
 ghost use Rattle.std.specs.List.{list_all};
 ghost use Rattle.std.specs.Char.{is_ascii_digit};
 ghost use Rattle.fixpoint.specs.PartsView.{parts_view};
-ghost use Rattle.fixpoint.specs.DecimalText.{Agrees, Decimal, Spells, after_run, decimal_of, decimals_at, digits_at, is_blank, is_zero, number_after, run_at, signed_of, unsigned_of, whole_of, with_sign};
+ghost use Rattle.fixpoint.specs.DecimalText.{Agrees, Decimal, Spells, after_run, decimal_of, decimals_at, digits_at, filled, fix16_of, scaled, is_blank, is_zero, number_after, run_at, signed_of, unsigned_of, whole_of, with_sign};
+
+use crate::number::Fix;
 
 /// Why a text is no number of the kind that was asked for.
 #[derive(Clone, Copy, Debug, PartialEq, Eq)]
@@ -26,8 +29,14 @@ struct Parts<'a> {
 /// Where the digits of a whole number stop to count: every greater number is out of range.
 const CAP: u64 = 1 << 40;
 
+/// How many decimals are read.
+const DECIMALS: usize = 18;
+
+/// The number 1 where 18 decimals are whole.
+const ONE: u128 = 1_000_000_000_000_000_000;
+
 /// The greatest number without its sign.
-const GREATEST: u64 = 2_147_483_647;
+const GREATEST: u128 = 2_147_483_647;
 
 /// Whether the byte is a space, tab, line feed or carriage return.
 fn is_blank(byte: u8) -> bool
@@ -169,9 +178,43 @@ fn number_up_to_cap(digits: &[u8]) -> u64
     number
 }
 
+/// The decimal at a place, 0 where the decimals end before it.
+fn decimal_at(decimals: &[u8], place: usize) -> u8
+    ensures { result ≡ slice_index_or decimals.now place 48 }
+{
+    match decimals.get(place) {
+        Some(digit) => *digit,
+        None => b'0',
+    }
+}
+
+/// The first 18 decimals as a whole number, with zeros where they end before.
+fn first_decimals(decimals: &[u8]) -> u128
+    ensures value { result ≡ number_after 0 (take 18 (filled decimals.now)) }
+    ensures size { result ≤ 23 * 10 ^ 18 }
+{
+    let mut number: u128 = 0;
+    for place in 0..DECIMALS {
+        let digit = decimal_at(decimals, place);
+        number = number * 10 + u128::from(digit.saturating_sub(b'0'));
+    }
+    number
+}
+
+/// A number with 16 binary places that is nearest to a whole number and so many 10^18ths.
+#[tactic(auto, unfolding(crate::specs::Rounding::round_up))]
+fn nearest_fix16(whole: u64, decimals: u128) -> u128
+    requires whole_size { whole ≤ 2 ^ 40 }
+    requires decimals_size { decimals ≤ 23 * 10 ^ 18 }
+    ensures { pos result ≡ round_up (pos ((whole * 10 ^ 18 + decimals) * 65536)) (10 ^ 18) }
+{
+    let scaled = u128::from(whole) * ONE + decimals;
+    (2 * (scaled * 65_536) + ONE) / (2 * ONE)
+}
+
 /// The sign put on a number of at most 31 bits.
 #[tactic(auto, unfolding(crate::specs::DecimalText::with_sign))]
-fn with_sign(is_negative: bool, number: u64) -> Result<i32, NumberFault>
+fn with_sign(is_negative: bool, number: u128) -> Result<i32, NumberFault>
     ensures { result ≡ with_sign is_negative (pos number) }
 {
     if GREATEST < number {
@@ -206,7 +249,36 @@ pub fn parse_whole(text: &str) -> Result<i32, NumberFault>
     if !are_zeros(number.decimals) {
         return Err(NumberFault::NotWhole);
     }
-    with_sign(number.is_negative, number_up_to_cap(number.whole))
+    let size = u128::from(number_up_to_cap(number.whole));
+    with_sign(number.is_negative, size)
+}
+
+/// The raw number of 16.16 nearest to a number.
+fn raw_of(number: Parts<'_>) -> Result<i32, NumberFault>
+    ensures { result ≡ with_sign number.entry.is_negative (round_up (pos (scaled (parts_view number.entry) * 65536)) (10 ^ 18)) }
+{
+    let whole = number_up_to_cap(number.whole);
+    let decimals = first_decimals(number.decimals);
+    let size = nearest_fix16(whole, decimals);
+    with_sign(number.is_negative, size)
+}
+
+/// The number of 16.16 nearest to what a decimal text writes: a decimal text is read as by
+/// [`parse_whole`], with any decimals. Of these the first 18 count. A tie goes away from 0.
+///
+/// # Errors
+///
+/// `NotNumber` where the text isn't a decimal text, else `NumberRange` where the raw number without its
+/// sign, after rounding, exceeds 2,147,483,647. So -32768 is out of range, though its raw number fits.
+#[tactic(auto, unfolding(crate::specs::DecimalText::fix16_by))]
+pub fn parse_fix16(text: &str) -> Result<Fix<16>, NumberFault>
+    ensures { result ≡ fix16_of text.now }
+{
+    let Some(number) = decimal_of(text.as_bytes()) else {
+        return Err(NumberFault::NotNumber);
+    };
+    let raw = raw_of(number)?;
+    Ok(Fix::from_raw(raw))
 }
 
 /// The reading finds a number exactly where the text is written as that number: so the words on what is
@@ -256,6 +328,38 @@ mod tests {
         ];
         for (text, want) in rows {
             assert_eq!(rt; parse_whole(text), want, "{text}");
+        }
+    }
+
+    // Each row: a text, and the raw number of its 16.16 or why it has none. A 65536th is 0.0000152587890625,
+    // and half of it a tie.
+    #[test]
+    fn reads_fixed_numbers(rt: HostRuntime) {
+        let rows = [
+            ("1", Ok(65536)),
+            ("-0.5", Ok(-32768)),
+            ("+12.25", Ok(802816)),
+            ("0.000007629394531249", Ok(0)),
+            ("0.000007629394531250", Ok(1)),
+            ("-0.000007629394531250", Ok(-1)),
+            ("0.0000076293945312499999", Ok(0)),
+            ("0.0000228881835937500", Ok(2)),
+            ("32767.99999", Ok(2147483647)),
+            ("32767.999992370605468749", Ok(2147483647)),
+            ("32767.999992370605468750", Err(NumberFault::NumberRange)),
+            ("-32768", Err(NumberFault::NumberRange)),
+            (
+                "99999999999999999999999999.5",
+                Err(NumberFault::NumberRange),
+            ),
+            ("00000000000000000000000001.5", Ok(98304)),
+            ("0.99999999999999999999999999", Ok(65536)),
+            ("1.", Err(NumberFault::NotNumber)),
+            ("1e3", Err(NumberFault::NotNumber)),
+            ("inf", Err(NumberFault::NotNumber)),
+        ];
+        for (text, want) in rows {
+            assert_eq!(rt; parse_fix16(text).map(|fix| fix.raw()), want, "{text}");
         }
     }
 }
