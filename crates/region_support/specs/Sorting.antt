@@ -6,8 +6,8 @@ use Rattle.std.specs.Ordering.{int_eq, is_lt}
 use Rattle.std.specs.Cmp.Lexicographic.{pointwise}
 use Rattle.variation_rules.specs.PackedPoints.{count_from}
 use Rattle.region_support.specs.MasterOrder.{is_default, compare_masters, AreMasters, axes_of}
-use Rattle.region_support.specs.declared.order.ModelStop.{ModelStop}
-use Rattle.region_support.specs.declared.order.ModelStop.TheVariants.{NoDefault, SameLocation}
+use Rattle.region_support.specs.declared.sorting.ModelStop.{ModelStop}
+use Rattle.region_support.specs.declared.sorting.ModelStop.TheVariants.{NoDefault, SameLocation}
 
 abbrev pub place_at : List (List ℤ) → ℕ → List ℤ
 place_at locations number = slice_index_or locations number []
