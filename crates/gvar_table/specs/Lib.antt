@@ -1,3 +1,4 @@
+pub mod Tuples
 pub mod OneTuple
 pub mod FirstRun
 pub mod Laws

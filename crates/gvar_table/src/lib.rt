@@ -7,5 +7,7 @@ mod one_tuple;
 mod packed_deltas;
 #[cfg(test)]
 mod tests;
+mod tuple;
 
 pub use one_tuple::{all_points, one_spelling};
+pub use tuple::Tuple;
