@@ -1,4 +1,3 @@
 pub mod Tuples
-pub mod OneTuple
-pub mod FirstRun
+pub mod Layout
 pub mod Laws

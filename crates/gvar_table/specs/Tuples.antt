@@ -26,14 +26,18 @@ pub record IsDelta (delta : Pair) : Type 0 where
   pub x : FitsSigned w16 delta.x
   pub y : FitsSigned w16 delta.y
 
--- in a font of so many axes, for a glyph of so many points, the four phantom points among them
+-- some points of a glyph that has so many, the four phantom points among them, and a delta for each
+pub record ArePointDeltas (count : ℕ) (points : List ℕ) (deltas : List Pair) : Type 0 where
+  pub some : 0 < length points
+  pub rise : RisesWithin 0 count points
+  pub one_each : length deltas ≡ length points
+  pub words : All IsDelta deltas
+
+-- a tuple in a font of so many axes, for a glyph of so many points
 pub record IsTupleOf (axes count : ℕ) (tuple : Tuple) : Type 0 where
   pub axis_each : array_vec_len tuple.support ≡ axes
   pub region : All IsRegionAxis tuple.support.items
-  pub some : 0 < length tuple.points
-  pub rise : RisesWithin 0 count tuple.points
-  pub one_each : length tuple.deltas ≡ length tuple.points
-  pub words : All IsDelta tuple.deltas
+  pub moves : ArePointDeltas count tuple.points tuple.deltas
 
 -- the tuples of one glyph
 pub record AreTuplesOf (axes count : ℕ) (tuples : List Tuple) : Type 0 where
