@@ -1,12 +1,12 @@
 -- Arcs are the same in each round of the cycle.
-use Rattle.std.proofs.Common.{◌≡◌, ℕ, ◌+◌, ◌-◌, ◌*◌, ◌%◌, ◌<◌, ◌≤◌, List, [], ◌∷◌, length, get_or, inl, inr, refl, sym, ◌∙◌, ap, subst, arith}
+use Rattle.std.proofs.Common.{◌≡◌, ℕ, ◌+◌, ◌-◌, ◌%◌, ◌<◌, ◌≤◌, List, [], ◌∷◌, length, get_or, inl, inr, refl, sym, ◌∙◌, ap, subst, arith}
 use Rattle.std.proofs.Math.Nat.{add-mod_right, mod-add-mod, mod-mod}
 use Rattle.fixpoint.specs.declared.plane.Pair.{Pair}
 use Rattle.variation_rules.specs.InferredDelta.{Inferred, around, still}
 use Rattle.iup.specs.Arcs.{Spans, Arc, Links, RisesFrom}
-use Rattle.iup.specs.Bounds.{IsCyclic, Reaches, IsStartPoint, PassesOver}
+use Rattle.iup.specs.Bounds.{IsCyclic, Reaches, IsStartPoint}
 use Rattle.iup.proofs.Paths.{Round}
-use Rattle.iup.proofs.Starts.{IsStart, StepsOver}
+use Rattle.iup.proofs.Starts.{IsStart}
 
 -- places that are one on the cycle have the same pair
 around_same : (pairs : List Pair) (n u w : ℕ) → length pairs ≡ n → u % n ≡ w % n → around pairs u ≡ around pairs w
