@@ -1,6 +1,6 @@
 -- The keys order locations totally, and tell any two of equal length apart.
-use Rattle.std.proofs.Common.{◌≡◌, ◌≢◌, refl, sym, ◌∙◌, ap, ℕ, suc, ℤ, pos, negsuc, ◌+◌, ◌≤◌, ◌<◌, Bool, true, false, inl, inr, List, [], ◌∷◌, length, map, Ordering, Less, Equal, Greater, arith}
-use Rattle.std.specs.Prelude.{IsPermutation, unsigned_abs, not, ◌&&◌, nat_eq, int_lt, if◌then◌else◌}
+use Rattle.std.proofs.Common.{◌≡◌, ◌≢◌, refl, sym, ◌∙◌, ℕ, ℤ, pos, ◌+◌, ◌≤◌, Bool, true, false, inl, inr, List, [], ◌∷◌, length, map, Ordering, Less, Equal, Greater, arith}
+use Rattle.std.specs.Prelude.{IsPermutation, unsigned_abs, not, ◌&&◌, nat_eq, if◌then◌else◌}
 use Rattle.std.specs.Cmp.{IsTotalOrder, bool_cmp_total}
 use Rattle.std.specs.Cmp.Lexicographic.{slice_cmp}
 use Rattle.std.specs.Ordering.{nat_cmp, bool_cmp, int_eq, ordering_then}

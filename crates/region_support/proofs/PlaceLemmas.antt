@@ -1,12 +1,13 @@
 -- What the locations in their order have of the locations as they are listed.
-use Rattle.std.proofs.Common.{◌≡◌, refl, sym, ◌∙◌, ap, subst, ℕ, zero, suc, ℤ, ◌+◌, ◌<◌, List, [], ◌∷◌, length, map, arith}
+use Rattle.std.proofs.Common.{◌≡◌, sym, ◌∙◌, subst, ℕ, zero, suc, ℤ, ◌+◌, ◌<◌, List, [], ◌∷◌, length, arith}
 use Rattle.std.specs.Prelude.{All}
 use Rattle.std.specs.List.{AllByRecursion}
-use Rattle.std.proofs.lemmas.List.{length-map}
 use Rattle.std.proofs.lemmas.List.Elements.{All-from_recursion, recursion_from_All}
 use Rattle.std.proofs.lemmas.List.Sorted.{All-permutation, length_permutation}
+use Rattle.arrayvec.specs.ArrayVec.{ArrayVec, array_vec_len}
 use Rattle.variation_rules.specs.PackedPoints.{count_from}
 use Rattle.region_support.specs.MasterOrder.{AreMasters, axes_of}
+use Rattle.region_support.specs.Places.{places_of}
 use Rattle.region_support.specs.Regions.{IsNormalised, AreNormalisedPlaces}
 use Rattle.region_support.specs.Sorting.{places_at, IsOrder}
 use Rattle.region_support.proofs.SortLemmas.{places_moved}
@@ -39,3 +40,8 @@ ordered_masters places order is =
 pub ordered_normalised : (places : List (List ℤ)) (order : List ℕ) → IsOrder places order → AreNormalisedPlaces places → AreNormalisedPlaces (places_at places order)
 ordered_normalised places order is each =
     recursion_from_All (AllByRecursion IsNormalised) (places_at places order) (All-permutation (AllByRecursion IsNormalised) places (places_at places order) (places_moved places order is.all) (All-from_recursion (AllByRecursion IsNormalised) places each))
+
+-- locations with so many axes each have as many as the first
+pub same_axes : (axes : ℕ) (locations : List (ArrayVec ℤ)) → All (λ at. array_vec_len at ≡ axes) locations → All (λ at. array_vec_len at ≡ axes_of (places_of locations)) locations
+same_axes axes [] each = λ k d below. absurd (omega arith)
+same_axes axes (at ∷ more) each = λ k d below. each k d below ∙ sym (each zero at (omega arith))

@@ -1,6 +1,6 @@
 -- What putting the masters of a design space in order answers: their numbers in order, or why there is no order.
 -- Locations are numbered from 0 as they are listed.
-use Rattle.std.specs.Prelude.{◌≡◌, ℕ, ℤ, Bool, List, [], ◌∷◌, ◌++◌, length, map, Option, Some, None, if◌then◌else◌, IsPermutation, position, slice_index_or, option_map}
+use Rattle.std.specs.Prelude.{ℕ, ℤ, Bool, List, [], ◌∷◌, ◌++◌, length, map, Option, Some, None, if◌then◌else◌, IsPermutation, position, slice_index_or, option_map}
 use Rattle.std.specs.List.{list_any}
 use Rattle.std.specs.Ordering.{int_eq, is_lt}
 use Rattle.std.specs.Cmp.Lexicographic.{pointwise}

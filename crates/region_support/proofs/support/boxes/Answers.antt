@@ -1,12 +1,12 @@
-use Rattle.std.proofs.Common.{◌≡◌, ◌≤◌, ◌<◌, ◌++◌, ℕ, ℤ, List, [], ◌∷◌, length, map, take, drop, append-nil, refl, sym, ◌∙◌, ap, subst, arith, rules}
+use Rattle.std.proofs.Common.{◌≡◌, ◌≤◌, ◌++◌, ℕ, ℤ, List, [], ◌∷◌, length, take, drop, append-nil, sym, ◌∙◌, ap, subst, arith}
 use Rattle.std.specs.List.{AllByRecursion}
 use Rattle.std.proofs.lemmas.List.{drop_all}
 use Rattle.std.proofs.lemmas.List.Elements.{All-from_recursion}
 use Rattle.arrayvec.specs.ArrayVec.{ArrayVec, array_vec_len}
 use Rattle.variation_rules.specs.declared.region.Triple.{Triple}
-use Rattle.region_support.specs.MasterOrder.{AreMasters, axes_of}
+use Rattle.region_support.specs.MasterOrder.{axes_of}
 use Rattle.region_support.specs.Places.{places_of, regions_in}
-use Rattle.region_support.specs.Regions.{regions_after, regions_of, AreTriangular, FirstIsWhole, AreNoneIfIgnored, AreNormalisedPlaces, AreNormalisedRegions}
+use Rattle.region_support.specs.Regions.{regions_after, regions_of, AreTriangular, FirstIsWhole, AreNoneIfIgnored, AreNormalisedRegions}
 use Rattle.region_support.proofs.RegionLaw.{own_one_later_nothing, none_if_ignored, same_lengths, first_is_whole}
 use Rattle.region_support.proofs.RangeLemmas.{regions_normalised}
 use Rattle.region_support.proofs.support.boxes.Goals as goal

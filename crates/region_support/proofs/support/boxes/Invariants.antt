@@ -1,4 +1,4 @@
-use Rattle.std.proofs.Common.{◌≡◌, ◌++◌, length, take, drop}
+use Rattle.std.proofs.Common.{◌≡◌, ◌++◌, take, drop}
 use Rattle.region_support.specs.Places.{places_of, regions_in}
 use Rattle.region_support.specs.Regions.{regions_after, regions_of}
 use Rattle.region_support.proofs.support.boxes.Given as goal
