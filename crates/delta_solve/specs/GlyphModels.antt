@@ -1,17 +1,18 @@
 -- The model of a glyph: the deltas of each of its numbers over all masters, or the first that doesn't fit 16 bits.
-use Rattle.std.specs.Prelude.{◌≡◌, ℕ, ℤ, pos, negsuc, ◌+◌, ◌<◌, Bool, true, false, ◌&&◌, List, [], ◌∷◌, ◌++◌, length, map, flat_map, All, Option, Some, None, if◌then◌else◌, int_le, slice_index_or}
+use Rattle.std.specs.Prelude.{◌≡◌, ℕ, ℤ, pos, negsuc, ◌+◌, ◌<◌, Bool, true, false, ◌&&◌, List, [], ◌∷◌, ◌++◌, length, map, flat_map, All, Option, Some, None, Result, Ok, Err, if◌then◌else◌, int_le, slice_index_or}
 use Rattle.fixpoint.specs.declared.plane.Pair.{Pair}
 use Rattle.glif.specs.declared.shape.Point.{Point}
 use Rattle.glif.specs.declared.shape.Outline.{Outline}
+use Rattle.variation_rules.specs.FontUnits.{IsFWord, AreFWords}
 use Rattle.variation_rules.specs.InferredDelta.{still}
 use Rattle.variation_rules.specs.PackedPoints.{count_from}
 use Rattle.variation_rules.specs.declared.region.Triple.{Triple}
-use Rattle.delta_solve.specs.Deltas.{deltas_of}
+use Rattle.delta_solve.specs.Deltas.{next_delta, deltas_by, whole_rows}
 use Rattle.delta_solve.specs.Outlines.{all_points, points_of, contour_lengths, contour_kinds, x_of, y_of, advance_of}
 use Rattle.delta_solve.specs.declared.model.GlyphTuple.{GlyphTuple}
 use Rattle.delta_solve.specs.declared.model.GlyphModel.{GlyphModel}
 use Rattle.delta_solve.specs.declared.model.DeltaStop.{DeltaStop}
-use Rattle.delta_solve.specs.declared.model.DeltaStop.TheVariants.{DeltaRange}
+use Rattle.delta_solve.specs.declared.model.DeltaStop.TheVariants.{DeltaRange, NoMemory}
 
 -- the default's outline, which is the first
 abbrev pub default_of : List Outline → Outline
@@ -28,15 +29,28 @@ delta_x point tuple = (slice_index_or tuple.deltas point still).x
 abbrev pub delta_y : ℕ → GlyphTuple → ℤ
 delta_y point tuple = (slice_index_or tuple.deltas point still).y
 
--- The model of outlines, one a master: the deltas of each coordinate and of the advance, taken by itself.
-pub record IsModelOf (regions : List (List Triple)) (locations : List (List ℤ)) (outlines : List Outline) (model : GlyphModel) : Type 0 where
+abbrev pub delta_advance : GlyphTuple → ℤ
+delta_advance tuple = tuple.advance
+
+-- all deltas of the tuple fit 16 bits
+pub record IsTupleWithin (tuple : GlyphTuple) : Type 0 where
+  pub deltas : All AreFWords tuple.deltas
+  pub advance : IsFWord tuple.advance
+
+-- The model of outlines, one a master, by the masters' rows of scalars: the deltas of each coordinate and of the
+-- advance, taken by itself.
+pub record IsModelBy (rows : List (List ℤ)) (outlines : List Outline) (model : GlyphModel) : Type 0 where
   pub lengths : model.lengths ≡ contour_lengths (default_of outlines)
   pub on : model.on ≡ map (λ (point : Point). point.on) (all_points (default_of outlines))
   pub one_each : length model.tuples ≡ length outlines
   pub points : All (λ (tuple : GlyphTuple). length tuple.deltas ≡ length (points_of (default_of outlines))) model.tuples
-  pub xs : (point : ℕ) → point < length (points_of (default_of outlines)) → map (delta_x point) model.tuples ≡ deltas_of regions locations (map (x_of point) outlines)
-  pub ys : (point : ℕ) → point < length (points_of (default_of outlines)) → map (delta_y point) model.tuples ≡ deltas_of regions locations (map (y_of point) outlines)
-  pub advances : map (λ (tuple : GlyphTuple). tuple.advance) model.tuples ≡ deltas_of regions locations (map advance_of outlines)
+  pub xs : (point : ℕ) → point < length (points_of (default_of outlines)) → map (delta_x point) model.tuples ≡ deltas_by rows (map (x_of point) outlines)
+  pub ys : (point : ℕ) → point < length (points_of (default_of outlines)) → map (delta_y point) model.tuples ≡ deltas_by rows (map (y_of point) outlines)
+  pub advances : map delta_advance model.tuples ≡ deltas_by rows (map advance_of outlines)
+
+-- the model of outlines of masters with these regions and locations
+abbrev pub IsModelOf : List (List Triple) → List (List ℤ) → List Outline → GlyphModel → Type 0
+IsModelOf regions locations outlines model = IsModelBy (whole_rows regions locations) outlines model
 
 abbrev pub fits_word : ℤ → Bool
 fits_word value = int_le (negsuc 32767) value && int_le value (pos 32767)
@@ -45,23 +59,62 @@ fits_word value = int_le (negsuc 32767) value && int_le value (pos 32767)
 abbrev pub misfit : ℕ → ℕ → Bool → ℤ → Option DeltaStop
 misfit master point y value = if fits_word value then None else Some (DeltaRange master point y value)
 
--- the delta of a master, of the numbers that the outlines have
-abbrev pub delta_at : List (List Triple) → List (List ℤ) → List ℤ → ℕ → ℤ
-delta_at regions locations values master = slice_index_or (deltas_of regions locations values) master (pos 0)
-
--- whether each delta of a master fits: by point, x before y, and the advance last, as that of the second phantom point
-abbrev pub misfits_of : List (List Triple) → List (List ℤ) → List Outline → ℕ → List (Option DeltaStop)
-misfits_of regions locations outlines master =
-    flat_map (λ point. misfit master point false (delta_at regions locations (map (x_of point) outlines) master)
-        ∷ misfit master point true (delta_at regions locations (map (y_of point) outlines) master) ∷ [])
-      (count_from (length (points_of (default_of outlines))) 0)
-    ++ (misfit master (length (points_of (default_of outlines)) + 1) false (delta_at regions locations (map advance_of outlines) master) ∷ [])
-
 abbrev pub first_some : {A : Type 0} → List (Option A) → Option A
 first_some [] = None
 first_some (None ∷ more) = first_some more
 first_some (Some a ∷ more) = Some a
 
+-- of one number's deltas, the first counted as that of this master, each that doesn't fit
+abbrev pub misfits_from : ℕ → List ℤ → List (Option DeltaStop)
+misfits_from master [] = []
+misfits_from master (delta ∷ deltas) = misfit master 0 false delta ∷ misfits_from (master + 1) deltas
+
+abbrev pub number_fault : List ℤ → Option DeltaStop
+number_fault deltas = first_some (misfits_from 0 deltas)
+
+-- The misfits of one master, from what the deltas of each point's coordinates and of the advance are: by point, x before
+-- y, and the advance last, as the second of the phantom points that come after so many.
+abbrev pub misfits_in : ℕ → ℕ → (ℕ → ℤ) → (ℕ → ℤ) → ℤ → List (Option DeltaStop)
+misfits_in master points x y advance =
+    flat_map (λ point. misfit master point false (x point) ∷ misfit master point true (y point) ∷ []) (count_from points 0)
+    ++ (misfit master (points + 1) false advance ∷ [])
+
+-- the delta of a master among those of all
+abbrev pub delta_at : List (List ℤ) → List ℤ → ℕ → ℤ
+delta_at rows values master = slice_index_or (deltas_by rows values) master (pos 0)
+
+-- those of a master, of the outlines of all
+abbrev pub misfits_of : List (List ℤ) → List Outline → ℕ → List (Option DeltaStop)
+misfits_of rows outlines master =
+    misfits_in master (length (points_of (default_of outlines)))
+      (λ point. delta_at rows (map (x_of point) outlines) master)
+      (λ point. delta_at rows (map (y_of point) outlines) master)
+      (delta_at rows (map advance_of outlines) master)
+
 -- the first delta that doesn't fit, master by master in their order
+abbrev pub fault_by : List (List ℤ) → List Outline → Option DeltaStop
+fault_by rows outlines = first_some (flat_map (misfits_of rows outlines) (count_from (length outlines) 0))
+
 abbrev pub delta_fault : List (List Triple) → List (List ℤ) → List Outline → Option DeltaStop
-delta_fault regions locations outlines = first_some (flat_map (misfits_of regions locations outlines) (count_from (length outlines) 0))
+delta_fault regions locations outlines = fault_by (whole_rows regions locations) outlines
+
+-- An answer is Ok only where there is no fault, and DeltaRange only where it is the fault. Memory may always run out.
+abbrev pub IsFaultOf : {A : Type 0} → Option DeltaStop → Result A DeltaStop → Type 0
+IsFaultOf fault (Ok _) = fault ≡ None
+IsFaultOf fault (Err NoMemory) = Unit {0}
+IsFaultOf fault (Err (DeltaRange master point y value)) = fault ≡ Some (DeltaRange master point y value)
+
+-- The tuple that comes next: by the row of its master, behind the earlier tuples.
+pub record IsNextTuple (row : List ℤ) (earlier : List GlyphTuple) (outline : Outline) (tuple : GlyphTuple) : Type 0 where
+  pub points : length tuple.deltas ≡ length (points_of outline)
+  pub xs : (point : ℕ) → point < length (points_of outline) → delta_x point tuple ≡ next_delta row (x_of point outline) (map (delta_x point) earlier)
+  pub ys : (point : ℕ) → point < length (points_of outline) → delta_y point tuple ≡ next_delta row (y_of point outline) (map (delta_y point) earlier)
+  pub advance : tuple.advance ≡ next_delta row (advance_of outline) (map delta_advance earlier)
+
+-- its deltas that don't fit
+abbrev pub next_misfits : ℕ → List ℤ → List GlyphTuple → Outline → List (Option DeltaStop)
+next_misfits master row earlier outline =
+    misfits_in master (length (points_of outline))
+      (λ point. next_delta row (x_of point outline) (map (delta_x point) earlier))
+      (λ point. next_delta row (y_of point outline) (map (delta_y point) earlier))
+      (next_delta row (advance_of outline) (map delta_advance earlier))

@@ -2,6 +2,17 @@
 //! master's own.
 #![tactic(auto)]
 
+mod glyph;
+mod laws;
 mod model;
+mod number;
+mod sums;
+mod scalars;
+mod values;
 
+
+pub use laws::{masters_return, rows_suffice};
 pub use model::{DeltaStop, GlyphModel, GlyphTuple};
+pub use number::solve;
+pub use scalars::{ScalarTable, table};
+pub use values::{advance_at, model_at};

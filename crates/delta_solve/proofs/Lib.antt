@@ -1,0 +1,3 @@
+pub mod MasterLaw
+pub mod SumSteps
+pub mod GlyphLemmas
