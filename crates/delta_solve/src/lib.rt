@@ -10,7 +10,7 @@ mod sums;
 mod scalars;
 mod values;
 
-
+pub use glyph::solve_glyph;
 pub use laws::{masters_return, rows_suffice};
 pub use model::{DeltaStop, GlyphModel, GlyphTuple};
 pub use number::solve;

@@ -1,9 +1,10 @@
-ghost use Rattle.std.specs.Prelude.{◌≡◌, ℤ, false, ◌<◌, ◌^◌, ◌≤ℤ◌, negsuc, pos, All, List, length, IfOk, IfErr, Some, None};
+ghost use Rattle.std.specs.Prelude.{◌≡◌, ℤ, ◌≤◌, All, List, length, IfOk, IfErr, Some, None};
 ghost use Rattle.variation_rules.specs.FontUnits.{IsFWord};
 ghost use Rattle.variation_rules.specs.declared.region.Triple.{Triple};
 ghost use Rattle.region_support.specs.Regions.{AreTriangular};
-ghost use Rattle.delta_solve.specs.Deltas.{ComeBack, deltas_by, deltas_of, rows_of};
-ghost use Rattle.delta_solve.specs.GlyphModels.{IsFaultOf, fits_word, misfit, number_fault};
+ghost use Rattle.delta_solve.specs.Deltas.{ComeBack, deltas_by, deltas_of, next_delta, rows_of};
+ghost use Rattle.delta_solve.specs.GlyphModels.{IsStopOf, misfit, number_fault};
+ghost use Rattle.delta_solve.specs.Tables.{IsScalar, IsTable};
 
 use crate::model::DeltaStop;
 use crate::sums::{dot, left_of};
@@ -30,6 +31,39 @@ pub(crate) fn fitting(master: u32, point: u32, y: bool, value: i64) -> Result<i3
     }
 }
 
+// What a master's value leaves to its delta, behind the earlier ones.
+#[tactic(auto, unfolding(crate::specs::Deltas::next_delta))]
+fn number_left(row: &[i32], earlier: &[i32], value: i32) -> i64
+    requires few { length row.now ≤ 128 }
+    requires scalars { All IsScalar row.now }
+    requires earlier { All IsFWord earlier.now }
+    ensures { result ≡ next_delta row.now value earlier.now }
+{
+    left_of(value, dot(row, earlier))
+}
+
+// The deltas of all masters.
+fn number_deltas(
+    alloc: Global,
+    values: &[i32],
+    rows: &[Seq<i32>],
+) -> Result<Seq<i32>, DeltaStop>
+    requires one_each { length values.now ≡ length rows.now }
+    requires rows { IsTable rows.now }
+    ensures deltas { IfOk result (λ deltas. deltas ≡ deltas_by rows.now values.now) }
+    ensures within { IfOk result (All IsFWord) }
+    ensures fits { IfOk result (λ _. number_fault (deltas_by rows.now values.now) ≡ None) }
+    ensures stops { IfErr result (IsStopOf (number_fault (deltas_by rows.now values.now))) }
+{
+    let mut deltas = Vec::new(alloc);
+    for master in 0..values.len() {
+        let left = number_left(rows[master].as_slice(), &deltas, values[master]);
+        let delta = fitting(master as u32, 0, false, left)?;
+        deltas.push(delta)?;
+    }
+    Ok(Seq::from_vec(deltas))
+}
+
 /// The deltas of one number over all masters (OpenType, "Algorithm for interpolation of instance values"): each is what
 /// the earlier ones leave of the master's value at its location, rounded to the nearest number, a tie going down. The
 /// values are in font units, one for each row of the table in the order of masters.
@@ -44,17 +78,10 @@ pub fn solve(
     requires { length values.now ≡ length table.now }
     ensures deltas { IfOk result (λ deltas. deltas ≡ deltas_by table.now values.now) }
     ensures within { IfOk result (All IsFWord) }
-    ensures fault { IsFaultOf (number_fault (deltas_by table.now values.now)) result }
+    ensures fits { IfOk result (λ _. number_fault (deltas_by table.now values.now) ≡ None) }
+    ensures stops { IfErr result (IsStopOf (number_fault (deltas_by table.now values.now))) }
     ensures of_regions { IfOk result (λ deltas. (regions : List (List Triple)) (locations : List (List ℤ)) → table.now ≡ rows_of regions locations → deltas ≡ deltas_of regions locations values.now) }
     ensures comes_back { IfOk result (λ deltas. (regions : List (List Triple)) (locations : List (List ℤ)) → table.now ≡ rows_of regions locations → AreTriangular regions locations → ComeBack regions deltas locations values.now) }
 {
-    let rows = table.rows();
-    let values = values.as_slice();
-    let mut deltas = Vec::new(alloc);
-    for master in 0..values.len() {
-        let given = dot(rows[master].as_slice(), &deltas);
-        let delta = left_of(values[master], given);
-        deltas.push(fitting(master as u32, 0, false, delta)?)?;
-    }
-    Ok(Seq::from_vec(deltas))
+    number_deltas(alloc, values.as_slice(), table.rows())
 }
