@@ -1,15 +1,15 @@
 -- Faults of deltas, point by point and master by master.
-use Rattle.std.proofs.Common.{◌≡◌, ℕ, ℤ, zero, suc, pos, false, ◌+◌, ◌-◌, ◌<◌, ◌≤◌, List, [], ◌∷◌, ◌++◌, length, map, flat_map, drop, get_or, Option, Some, None, refl, sym, ◌∙◌, ap, subst, arith}
-use Rattle.std.proofs.lemmas.List.{drop_more, get_or-map, map_push, append_assoc, append-nil, get_or_at, drop_all}
+use Rattle.std.proofs.Common.{◌≡◌, ℕ, suc, pos, false, ◌+◌, ◌-◌, ◌<◌, ◌≤◌, List, [], ◌∷◌, ◌++◌, length, map, flat_map, get_or, Option, Some, None, refl, sym, ◌∙◌, ap, subst, arith}
+use Rattle.std.proofs.lemmas.List.{get_or-map}
 use Rattle.fixpoint.specs.declared.plane.Pair.{Pair}
+use Rattle.std.proofs.lemmas.List.Concat.{length-flat_map}
+use Rattle.glif.specs.Limits.{IsWithinLimits}
 use Rattle.glif.specs.declared.shape.Point.{Point}
 use Rattle.glif.specs.declared.shape.Outline.{Outline}
 use Rattle.variation_rules.specs.InferredDelta.{still}
 use Rattle.variation_rules.specs.PackedPoints.{count_from}
-use Rattle.delta_solve.specs.Deltas.{next_delta, deltas_behind, deltas_by}
-use Rattle.delta_solve.specs.GlyphModels.{first_some, misfit, misfits_from, number_fault, IsStopOf}
-use Rattle.delta_solve.specs.Outlines.{place, x_at, y_at}
-use Rattle.delta_solve.specs.declared.model.GlyphTuple.{GlyphTuple}
+use Rattle.delta_solve.specs.GlyphModels.{first_some, IsStopOf}
+use Rattle.delta_solve.specs.Outlines.{all_points, place, x_at, y_at}
 use Rattle.delta_solve.specs.declared.model.DeltaStop.{DeltaStop}
 use Rattle.delta_solve.specs.declared.model.DeltaStop.TheVariants.{DeltaRange, NoMemory}
 
@@ -35,6 +35,13 @@ stop_of fault (DeltaRange master point y value) is = is
 pub stop_in_front : (a b : List (Option DeltaStop)) (stop : DeltaStop) → IsStopOf (first_some a) stop → IsStopOf (first_some (a ++ b)) stop
 stop_in_front a b NoMemory is = tt
 stop_in_front a b (DeltaRange master point y value) is = first_some_stays a b (DeltaRange master point y value) is
+
+-- the same of one fault behind others
+pub last_found : (front : List (Option DeltaStop)) (last : Option DeltaStop) (stop : DeltaStop) → first_some front ≡ None → last ≡ Some stop → IsStopOf (first_some (front ++ last ∷ [])) stop
+last_found front last stop none is = stop_of (first_some (front ++ last ∷ [])) stop (first_some_past front (last ∷ []) none ∙ ap (λ fault. first_some (fault ∷ [])) is)
+
+pub last_none : (front : List (Option DeltaStop)) (last : Option DeltaStop) → first_some front ≡ None → last ≡ None → first_some (front ++ last ∷ []) ≡ None
+last_none front last none is = first_some_past front (last ∷ []) none ∙ ap (λ fault. first_some (fault ∷ [])) is
 
 -- ---- the loop over points, and that over masters
 
@@ -73,3 +80,8 @@ x_here points k inside = ap (λ (pair : Pair). pair.x) (get_or-map place points 
 
 pub y_here : (points : List Point) (k : ℕ) → k < length points → y_at k (map place points) ≡ (get_or points k origin).y
 y_here points k inside = ap (λ (pair : Pair). pair.y) (get_or-map place points k origin still inside)
+
+-- ---- how many points an outline has
+
+pub few_points : (outline : Outline) → IsWithinLimits outline → length (all_points outline) ≤ 4000
+few_points outline within = omega (arith, length-flat_map (λ (contour : List Point). contour) outline.contours, within.points)

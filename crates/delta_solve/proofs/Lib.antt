@@ -4,3 +4,4 @@ pub mod GlyphLemmas
 pub mod NumberLemmas
 pub mod Columns
 pub mod TableLemmas
+pub mod OfRegions

@@ -9,7 +9,7 @@ use Rattle.fixpoint.proofs.RoundingLemmas.{comes_back}
 use Rattle.variation_rules.specs.Scalar.{scalar_of}
 use Rattle.variation_rules.specs.declared.region.Triple.{Triple}
 use Rattle.region_support.specs.Regions.{AreTriangular, EndsTheRow}
-use Rattle.delta_solve.specs.Deltas.{dot, scalars_at, model_value, next_delta, deltas_behind, deltas_by, whole_rows, deltas_of, ComeBack, MastersReturn, rows_after, rows_of, RowsSuffice}
+use Rattle.delta_solve.specs.Deltas.{dot, scalars_at, model_value, next_delta, deltas_behind, ComeBack, MastersReturn, rows_after, RowsSuffice}
 
 -- what stands behind the last delta doesn't count
 dot_front : (a b c : List ℤ) → length a ≡ length c → dot (a ++ b) c ≡ dot a c

@@ -1,10 +1,10 @@
 -- The deltas of one number, made master by master.
-use Rattle.std.proofs.Common.{◌≡◌, ℕ, ℤ, pos, ◌+◌, ◌<◌, ◌≤◌, false, List, [], ◌∷◌, ◌++◌, length, drop, get_or, Option, Some, None, refl, sym, ◌∙◌, ap, subst, arith}
-use Rattle.std.proofs.lemmas.List.{drop_more, append_assoc, append-nil, drop_all}
+use Rattle.std.proofs.Common.{◌≡◌, ℕ, ℤ, pos, ◌+◌, ◌<◌, false, List, [], ◌∷◌, ◌++◌, length, drop, get_or, Option, Some, None, refl, sym, ◌∙◌, ap, subst}
+use Rattle.std.proofs.lemmas.List.{drop_more, append_assoc}
 use Rattle.variation_rules.specs.declared.region.Triple.{Triple}
 use Rattle.region_support.specs.Regions.{AreTriangular}
 use Rattle.delta_solve.specs.Deltas.{next_delta, deltas_behind, deltas_by, deltas_of, rows_of, ComeBack}
-use Rattle.delta_solve.specs.GlyphModels.{first_some, misfit, misfits_from, number_fault, IsStopOf}
+use Rattle.delta_solve.specs.GlyphModels.{first_some, misfit, misfits_from, IsStopOf}
 use Rattle.delta_solve.specs.declared.model.DeltaStop.{DeltaStop}
 use Rattle.delta_solve.proofs.GlyphLemmas.{first_some_past, stop_of}
 use Rattle.delta_solve.proofs.MasterLaw.{rows_suffice, masters_return}

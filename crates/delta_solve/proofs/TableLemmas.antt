@@ -1,5 +1,5 @@
 -- The rows of a table, made master by master.
-use Rattle.std.proofs.Common.{◌≡◌, ℕ, ℤ, ◌+◌, ◌<◌, List, [], ◌∷◌, ◌++◌, length, map, take, drop, get_or, refl, sym, ◌∙◌, ap, arith}
+use Rattle.std.proofs.Common.{◌≡◌, ℕ, ℤ, ◌+◌, ◌<◌, List, [], ◌∷◌, ◌++◌, length, take, drop, get_or, ◌∙◌, arith}
 use Rattle.std.proofs.lemmas.List.{drop_more, map_more, append_assoc, length_push}
 use Rattle.arrayvec.specs.ArrayVec.{ArrayVec}
 use Rattle.variation_rules.specs.declared.region.Triple.{Triple}

@@ -1,6 +1,6 @@
 -- The deltas of the support model (OpenType, "Algorithm for interpolation of instance values"): each master's delta
 -- is what the masters before it leave of its value. Scalars are in 65536ths, and so are the model's values.
-use Rattle.std.specs.Prelude.{◌≡◌, ℕ, ℤ, pos, ◌+ℤ◌, ◌-ℤ◌, ◌*ℤ◌, List, [], ◌∷◌, ◌++◌, length, map}
+use Rattle.std.specs.Prelude.{◌≡◌, ℤ, pos, ◌+ℤ◌, ◌-ℤ◌, ◌*ℤ◌, List, [], ◌∷◌, ◌++◌, length, map}
 use Rattle.fixpoint.specs.Rounding.{round_up, round_down}
 use Rattle.variation_rules.specs.declared.region.Triple.{Triple}
 use Rattle.variation_rules.specs.Scalar.{scalar_of}

@@ -4,7 +4,6 @@ use Rattle.fixpoint.specs.declared.plane.Pair.{Pair}
 use Rattle.glif.specs.declared.shape.Point.{Point}
 use Rattle.glif.specs.declared.shape.Outline.{Outline}
 use Rattle.variation_rules.specs.FontUnits.{IsFWord, AreFWords}
-use Rattle.variation_rules.specs.InferredDelta.{still}
 use Rattle.variation_rules.specs.PackedPoints.{count_from}
 use Rattle.variation_rules.specs.declared.region.Triple.{Triple}
 use Rattle.delta_solve.specs.Deltas.{next_delta, deltas_by, whole_rows}
@@ -93,9 +92,9 @@ delta_at rows values master = slice_index_or (deltas_by rows values) master (pos
 abbrev pub misfits_of : List (List ℤ) → List Outline → ℕ → List (Option DeltaStop)
 misfits_of rows outlines master =
     misfits_in master (length (points_of (default_of outlines)))
-      (λ point. delta_at rows (map (x_of point) outlines) master)
-      (λ point. delta_at rows (map (y_of point) outlines) master)
-      (delta_at rows (map advance_of outlines) master)
+    (λ point. delta_at rows (map (x_of point) outlines) master)
+    (λ point. delta_at rows (map (y_of point) outlines) master)
+    (delta_at rows (map advance_of outlines) master)
 
 -- the first delta that doesn't fit, master by master in their order
 abbrev pub fault_by : List (List ℤ) → List Outline → Option DeltaStop

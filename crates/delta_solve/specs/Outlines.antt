@@ -1,5 +1,5 @@
 -- What the outlines of a glyph's masters are compared and computed by.
-use Rattle.std.specs.Prelude.{◌≡◌, ℕ, ℤ, Bool, List, length, map, flat_map, slice_index_or}
+use Rattle.std.specs.Prelude.{ℕ, ℤ, Bool, List, length, map, flat_map, slice_index_or}
 use Rattle.fixpoint.specs.declared.plane.Pair.{Pair}
 use Rattle.glif.specs.declared.shape.Point.{Point}
 use Rattle.glif.specs.declared.shape.Outline.{Outline}

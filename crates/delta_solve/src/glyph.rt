@@ -11,8 +11,8 @@ ghost use Rattle.delta_solve.specs.Tables.{IsScalar, IsTable};
 
 use crate::model::{DeltaStop, GlyphModel, GlyphTuple};
 use crate::number::fitting;
-use crate::sums::{Wide, advance_dot, left_of, point_dot};
 use crate::scalars::ScalarTable;
+use crate::sums::{Wide, advance_dot, left_of, point_dot};
 use fixpoint::Pair;
 use glif::{Outline, Point};
 use outside::{NoMemory, Seq};
@@ -167,6 +167,32 @@ fn tuples_of(
     Ok(Seq::from_vec(tuples))
 }
 
+// The model of a glyph by the masters' rows.
+fn model_by(alloc: Global, outlines: &[Outline], rows: &[Seq<i32>]) -> Result<GlyphModel, DeltaStop>
+    requires one_each { length outlines.now ≡ length rows.now }
+    requires rows { IsTable rows.now }
+    requires within { All IsWithinLimits outlines.now }
+    requires alike { AreAlike outlines.now }
+    ensures model { IfOk result (IsModelBy rows.now outlines.now) }
+    ensures within { IfOk result (λ model. All IsTupleWithin model.tuples) }
+    ensures fits { IfOk result (λ _. fault_by rows.now outlines.now ≡ None) }
+    ensures stops { IfErr result (IsStopOf (fault_by rows.now outlines.now)) }
+{
+    let tuples = tuples_of(alloc, outlines, rows)?;
+    match outlines {
+        [default, ..] => Ok(GlyphModel {
+            lengths: contour_lengths(alloc, default)?,
+            on: kinds(alloc, default)?,
+            tuples,
+        }),
+        [] => Ok(GlyphModel {
+            lengths: Seq::new(alloc),
+            on: Seq::new(alloc),
+            tuples,
+        }),
+    }
+}
+
 /// The model of a glyph: the deltas of each point's coordinates and of the advance, each taken by itself as `solve` takes
 /// a number. The outlines are those of the masters in their order, one for each row of the table, within limits, with the
 /// same contours and points of the same kinds.
@@ -188,17 +214,5 @@ pub fn solve_glyph(
     ensures fits_regions { IfOk result (λ _. (regions : List (List Triple)) (locations : List (List ℤ)) → table.now ≡ rows_of regions locations → delta_fault regions locations outlines.now ≡ None) }
     ensures stops_regions { IfErr result (λ stop. (regions : List (List Triple)) (locations : List (List ℤ)) → table.now ≡ rows_of regions locations → IsStopOf (delta_fault regions locations outlines.now) stop) }
 {
-    let tuples = tuples_of(alloc, outlines.as_slice(), table.rows())?;
-    match outlines.as_slice() {
-        [default, ..] => Ok(GlyphModel {
-            lengths: contour_lengths(alloc, default)?,
-            on: kinds(alloc, default)?,
-            tuples,
-        }),
-        [] => Ok(GlyphModel {
-            lengths: Seq::new(alloc),
-            on: Seq::new(alloc),
-            tuples,
-        }),
-    }
+    model_by(alloc, outlines.as_slice(), table.rows())
 }

@@ -6,8 +6,8 @@ mod glyph;
 mod laws;
 mod model;
 mod number;
-mod sums;
 mod scalars;
+mod sums;
 mod values;
 
 pub use glyph::solve_glyph;

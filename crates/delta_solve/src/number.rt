@@ -7,8 +7,8 @@ ghost use Rattle.delta_solve.specs.GlyphModels.{IsStopOf, misfit, number_fault};
 ghost use Rattle.delta_solve.specs.Tables.{IsScalar, IsTable};
 
 use crate::model::DeltaStop;
-use crate::sums::{dot, left_of};
 use crate::scalars::ScalarTable;
+use crate::sums::{dot, left_of};
 use outside::Seq;
 use std::alloc::Global;
 
@@ -43,11 +43,7 @@ fn number_left(row: &[i32], earlier: &[i32], value: i32) -> i64
 }
 
 // The deltas of all masters.
-fn number_deltas(
-    alloc: Global,
-    values: &[i32],
-    rows: &[Seq<i32>],
-) -> Result<Seq<i32>, DeltaStop>
+fn number_deltas(alloc: Global, values: &[i32], rows: &[Seq<i32>]) -> Result<Seq<i32>, DeltaStop>
     requires one_each { length values.now ≡ length rows.now }
     requires rows { IsTable rows.now }
     ensures deltas { IfOk result (λ deltas. deltas ≡ deltas_by rows.now values.now) }
@@ -70,11 +66,7 @@ fn number_deltas(
 ///
 /// Stops with the first delta that doesn't fit 16 bits, as one of point 0 in x. Where the regions of the masters are
 /// made for their locations, the model's value at each master's location, rounded with a tie going up, is the master's.
-pub fn solve(
-    alloc: Global,
-    values: &Seq<i32>,
-    table: &ScalarTable,
-) -> Result<Seq<i32>, DeltaStop>
+pub fn solve(alloc: Global, values: &Seq<i32>, table: &ScalarTable) -> Result<Seq<i32>, DeltaStop>
     requires { length values.now ≡ length table.now }
     ensures deltas { IfOk result (λ deltas. deltas ≡ deltas_by table.now values.now) }
     ensures within { IfOk result (All IsFWord) }

@@ -4,8 +4,8 @@ ghost use Rattle.delta_solve.specs.Deltas.{model_value};
 ghost use Rattle.delta_solve.specs.GlyphModels.{IsTupleWithin, delta_advance, delta_x, delta_y};
 
 use crate::model::GlyphModel;
-use crate::sums::{advance_dot, point_dot};
 use crate::scalars::scalars_at;
+use crate::sums::{advance_dot, point_dot};
 use outside::Seq;
 use region_support::{Location, Support};
 

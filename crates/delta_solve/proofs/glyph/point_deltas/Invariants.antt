@@ -13,5 +13,5 @@ invariant-loop-point l = record {
   ys : (point : ℕ) → point < l.point → y_at point l.deltas.items ≡ next_y l.row l.earlier (map place l.points) point;
   within : All AreFWords l.deltas.items;
   fault : first_some (flat_map (point_misfits l.master (next_x l.row l.earlier (map place l.points)) (next_y l.row l.earlier (map place l.points))) (count_from (length (map place l.points) - l.point) l.point))
-  ≡ first_some (next_point_misfits l.master l.row l.earlier (map place l.points));
+      ≡ first_some (next_point_misfits l.master l.row l.earlier (map place l.points));
 }

@@ -1,12 +1,10 @@
-use Rattle.std.proofs.Common.{◌≡◌, ℤ, pos, ◌<◌, [], ◌∷◌, ◌++◌, length, get_or, to_z-of_z, FitsSigned, rules, arith}
-use Rattle.std.proofs.lemmas.Int.{ints}
+use Rattle.std.proofs.Common.{◌≡◌, pos, [], ◌∷◌, ◌++◌, get_or, to_z-of_z, FitsSigned, rules, arith}
 use Rattle.std.proofs.lemmas.List.{length_push}
 use Rattle.std.proofs.lemmas.List.Elements.{All-push}
 use Rattle.std.proofs.lemmas.Result.{err_from_is_err_and}
 use Rattle.std.specs.Int.{w32, w64}
 use Rattle.variation_rules.specs.FontUnits.{IsFWord}
-use Rattle.delta_solve.specs.Deltas.{next_delta, deltas_by}
-use Rattle.delta_solve.specs.GlyphModels.{number_fault}
+use Rattle.delta_solve.specs.Deltas.{next_delta}
 use Rattle.delta_solve.proofs.NumberLemmas.{number_step, number_fits, number_stops}
 use Rattle.delta_solve.proofs.number.number_deltas.Goals as goal
 

@@ -1,4 +1,4 @@
-use Rattle.std.proofs.Common.{◌≡◌, ◌≤◌, ◌++◌, All, length, take, drop, map}
+use Rattle.std.proofs.Common.{◌≡◌, All, length, take}
 use Rattle.region_support.specs.Places.{regions_in}
 use Rattle.delta_solve.specs.Deltas.{scalars_at}
 use Rattle.delta_solve.specs.Tables.{IsScalar}

@@ -1,6 +1,5 @@
-use Rattle.std.proofs.Common.{◌≡◌, ℕ, ◌<◌, List, length, take, ap, subst, arith}
+use Rattle.std.proofs.Common.{◌≡◌, ◌<◌, length, take, ap, arith}
 use Rattle.std.proofs.lemmas.List.{length_push, length-take}
-use Rattle.delta_solve.specs.Deltas.{scalars_at}
 use Rattle.delta_solve.specs.Tables.{IsRow}
 use Rattle.delta_solve.proofs.TableLemmas.{rows_step, rows_pushed}
 use Rattle.delta_solve.proofs.scalars.table.Goals as goal

@@ -1,4 +1,4 @@
-use Rattle.std.proofs.Common.{◌≡◌, ℤ, pos, ◌<◌, ◌+ℤ◌, ◌*ℤ◌, length, get_or, to_z, to_z-of_z, FitsSigned, rules, arith}
+use Rattle.std.proofs.Common.{◌≡◌, pos, ◌<◌, ◌+ℤ◌, ◌*ℤ◌, get_or, to_z, to_z-of_z, FitsSigned, rules, arith}
 use Rattle.std.proofs.lemmas.Int.{ints}
 use Rattle.std.specs.Int.{w32, w64}
 use Rattle.delta_solve.proofs.SumSteps.{dot_step, dot_end, sum_within}

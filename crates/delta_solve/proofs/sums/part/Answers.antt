@@ -1,4 +1,4 @@
-use Rattle.std.proofs.Common.{◌≡◌, ℤ, ◌*ℤ◌, to_z-of_z, FitsSigned, arith}
+use Rattle.std.proofs.Common.{◌≡◌, ◌*ℤ◌, to_z-of_z, FitsSigned, arith}
 use Rattle.std.proofs.lemmas.Int.{ints}
 use Rattle.std.specs.Int.{w64}
 use Rattle.delta_solve.proofs.SumSteps.{product_within}

@@ -1,4 +1,4 @@
-use Rattle.std.proofs.Common.{◌≡◌, ℤ, pos, ◌<◌, ◌+ℤ◌, ◌*ℤ◌, length, map, get_or, to_z, to_z-of_z, FitsSigned, rules, arith}
+use Rattle.std.proofs.Common.{◌≡◌, pos, ◌<◌, ◌+ℤ◌, ◌*ℤ◌, length, map, get_or, to_z, to_z-of_z, FitsSigned, rules, arith}
 use Rattle.std.proofs.lemmas.Int.{ints}
 use Rattle.std.proofs.lemmas.List.{length-map}
 use Rattle.std.specs.Int.{w32, w64}
