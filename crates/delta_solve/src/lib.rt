@@ -8,6 +8,8 @@ mod model;
 mod number;
 mod scalars;
 mod sums;
+#[cfg(test)]
+mod tests;
 mod values;
 
 pub use glyph::solve_glyph;

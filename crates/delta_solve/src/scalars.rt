@@ -73,7 +73,8 @@ pub fn table(
 ) -> Result<ScalarTable, NoMemory>
     requires one_each { length supports.now ≡ length sorted.now }
     requires few { length sorted.now ≤ 128 }
-    ensures { IfOk result (λ table. table ≡ rows_of (regions_in supports.now) (places_of sorted.now)) }
+    ensures rows { IfOk result (λ table. table ≡ rows_of (regions_in supports.now) (places_of sorted.now)) }
+    ensures one_each { IfOk result (λ table. length table ≡ length sorted.now) }
 {
     let supports = supports.as_slice();
     let sorted = sorted.as_slice();
