@@ -135,7 +135,7 @@ short_count : (count : ℕ) → count < 128 → length (count_bytes count) ≡ 1
 short_count count short = grind arith
 
 count_length : (count : ℕ) → length (count_bytes count) ≤ 2
-count_length count = elim (cases_lt count 128) [ | inl short ↦ grind arith | inr long ↦ grind arith ]
+count_length count = elim (cases_lt count 128) [ inl short ↦ grind arith | inr long ↦ grind arith ]
 
 -- the count and the packed differences stand for the points, whatever the number of points that the glyph has
 pub listed : (total : ℕ) (points differences counts bytes : List ℕ) → 0 < length points → length points ≤ 4004 → RisesWithin 0 total points → points ≡ points_after 0 differences → counts ≡ count_bytes (length points) → AddsDifferences counts bytes differences → PacksListedPoints total bytes points
