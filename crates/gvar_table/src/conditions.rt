@@ -1,12 +1,14 @@
 //! Whether values are within what the calls ask for, so that tests can make them from tables.
-ghost use Rattle.std.specs.Prelude.{◌≡◌, ◌↔◌, pos, IsTrue, All, FitsSigned};
+ghost use Rattle.std.specs.Prelude.{◌≡◌, ◌*◌, ◌≤◌, ◌↔◌, length, pos, IsTrue, All, FitsSigned};
 ghost use Rattle.std.specs.Int.{w16};
 ghost use Rattle.variation_rules.specs.PackedPoints.{RisesWithin};
 ghost use Rattle.variation_rules.specs.Scalar.{is_ignored};
+ghost use Rattle.gvar_table.specs.Table.{AreGlyphsOf};
 ghost use Rattle.gvar_table.specs.Tuples.{AreTuplesOf, IsCoordinate, IsDelta, IsRegionAxis, IsTupleOf};
 
 use crate::Tuple;
 use fixpoint::Pair;
+use outside::Seq;
 use variation_rules::Triple;
 
 /// Whether a raw number is a coordinate.
@@ -139,4 +141,37 @@ pub(crate) fn are_tuples_of(axes: u32, count: u16, tuples: &[Tuple]) -> bool
         && (4..=4004).contains(&count)
         && tuples.len() <= 127
         && is_each(axes, count, tuples)
+}
+
+/// Whether the tuples can be written as those of the glyphs.
+pub(crate) fn are_glyphs_of(axes: u32, counts: &[u16], glyphs: &[Seq<Tuple>]) -> bool
+    ensures { IsTrue result → AreGlyphsOf axes counts.now glyphs.now }
+{
+    let mut points = 0u64;
+    let mut later_counts = counts;
+    let mut later_glyphs = glyphs;
+    while let [tuples, more_glyphs @ ..] = later_glyphs {
+        let [count, more_counts @ ..] = later_counts else {
+            return false;
+        };
+        let tuples = tuples.as_slice();
+        if !are_tuples_of(axes, *count, tuples) {
+            return false;
+        }
+        points += points_of(*count, tuples);
+        if points > 16_777_216 {
+            return false;
+        }
+        later_counts = more_counts;
+        later_glyphs = more_glyphs;
+    }
+    later_counts.is_empty() && (1..=8).contains(&axes) && glyphs.len() <= 32510
+}
+
+/// The count of points, taken once for each tuple.
+fn points_of(count: u16, tuples: &[Tuple]) -> u64
+    requires { length tuples.now ≤ 127 }
+    ensures { result ≡ count * length tuples.now }
+{
+    u64::from(count) * tuples.len() as u64
 }

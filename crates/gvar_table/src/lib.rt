@@ -11,6 +11,8 @@ mod glyphs;
 mod header;
 mod laws;
 mod part;
+#[cfg(test)]
+mod table_tests;
 mod tuple;
 
 pub use glyph::glyph_data;
