@@ -51,10 +51,11 @@ pub path_down : (E : ℕ → ℕ → Type 0) (n : ℕ) → IsCyclic E n → (a b
 path_down E n cyclic a b zero path = omega (arith, path)
 path_down E n cyclic a b (suc k) path =
     let ahead = cyclic.ahead (a + n) path.0 path.1 in
-    let round : path.0 ≡ path.0 - n + n = omega arith in
-    (path.0 - n,
-     cyclic.down a (path.0 - n) (subst (λ x. E (a + n) x) round path.1),
-     path_down E n cyclic (path.0 - n) b k (subst (λ x. Path E x (b + n) k) round path.2))
+    let round : path.0 ≡ path.0 - n + n = omega arith in (
+      path.0 - n,
+      cyclic.down a (path.0 - n) (subst (λ x. E (a + n) x) round path.1),
+      path_down E n cyclic (path.0 - n) b k (subst (λ x. Path E x (b + n) k) round path.2),
+    )
 
 -- a step of a way that leads over a place, or begins there
 pub record Meets (E : ℕ → ℕ → Type 0) (a b k q : ℕ) : Type 0 where

@@ -38,14 +38,12 @@ fn are_linked(points: &[Pair], deltas: &[Pair], first: usize, members: &[u32]) -
 {
     let end = first + points.len();
     let mut from = first;
-    let mut rest = members;
-    while let [next, after @ ..] = rest {
+    for next in members {
         let to = *next as usize;
         if !spans(points, deltas, from, to) {
             return false;
         }
         from = to;
-        rest = after;
     }
     spans(points, deltas, from, end)
 }
