@@ -1,0 +1,23 @@
+use Rattle.std.proofs.Common.{◌≡◌, FitsSigned, to_z-of_z, ◌∙◌, ap, arith}
+use Rattle.std.proofs.lemmas.Int.{ints}
+use Rattle.std.specs.Int.{w64}
+use Rattle.arc_table.specs.Rays.{turned_round, seen_from}
+use Rattle.arc_table.proofs.AxisLemmas.{axis_with}
+use Rattle.arc_table.proofs.axis.Axis.with.Goals as goal
+
+pub returns-clause-ends : goal.returns-clause-ends
+returns-clause-ends c end fits =
+    let delta_fits : FitsSigned w64 c.args.point.delta = omega (arith, ints) in
+    let turned : c.turned.result ≡ turned_round (seen_from c.args.self.start c.args.point) = c.turned.ensures ∙ ap turned_round c.look-seen.ensures.value in
+    let same = simp to_z-of_z at c.is_same.ensures in
+    axis_with c.args.self _ c.args.self.start end c.args.point c.requires.sound.start fits
+    (record {
+      ahead = rw c.look-seen.ensures.value at c.with.ensures.ends;
+      behind = rw turned at c.with-2.ensures.ends;
+      flat_ahead = rw c.look-seen.ensures.value at c.with.ensures.flat;
+      flat_behind = rw turned at c.with-2.ensures.flat;
+      still = (
+        λ still. let both = c.both.ensures.0 still in (same.0 both.0, both.1),
+        λ both. c.both.ensures.1 (same.1 both.0, both.1),
+      );
+    })
