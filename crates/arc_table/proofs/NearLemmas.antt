@@ -19,10 +19,13 @@ nearer_on near mark end sound some nearer ray = (
       (λ (on : OnRay mark end × (end.at ≤ near.off)). (λ _. on.0, inr (ray_joined near.first mark end some (ray_turned mark near.first ray) on.0, on.1)))
       allowed,
   λ both. ⊎_elim
-      (λ (above : mark.at < end.at). inr (both.0 above, ⊎_elim
-          (λ (below : end.at ≤ near.first.at). omega (arith, sound.first))
-          (λ (on : OnRay near.first end × (end.at ≤ near.off)). on.1)
-          both.1))
+      (λ (above : mark.at < end.at). inr (
+        both.0 above,
+        ⊎_elim
+            (λ (below : end.at ≤ near.first.at). omega (arith, sound.first))
+            (λ (on : OnRay near.first end × (end.at ≤ near.off)). on.1)
+            both.1,
+      ))
       (λ (below : end.at ≤ mark.at). inl below)
       (cases_lt mark.at end.at),
 )
@@ -36,9 +39,9 @@ nearer_off near mark end some nearer off = (
       allowed,
   λ both. ⊎_elim
       (λ (above : mark.at < end.at). ⊎_elim
-          (λ (below : end.at ≤ near.first.at). inr (both.0 above, below))
-          (λ (on : OnRay near.first end × (end.at ≤ near.off)). absurd (off (ray_joined mark end near.first some (both.0 above) (ray_turned near.first end on.0))))
-          both.1)
+      (λ (below : end.at ≤ near.first.at). inr (both.0 above, below))
+      (λ (on : OnRay near.first end × (end.at ≤ near.off)). absurd (off (ray_joined mark end near.first some (both.0 above) (ray_turned near.first end on.0))))
+      both.1)
       (λ (below : end.at ≤ mark.at). inl below)
       (cases_lt mark.at end.at),
 )

@@ -4,7 +4,7 @@ ghost use Rattle.variation_rules.specs.declared.inferred.Reference.{Reference};
 ghost use Rattle.arc_table.specs.Rays.{seen_from, IsInferred};
 ghost use Rattle.arc_table.specs.Summaries.{IsAxis, AxisAllows, LevelAllows};
 
-use crate::seen::{Seen, both, is_same, look, turned};
+use crate::seen::{Seen, is_same};
 use crate::side::Side;
 use variation_rules::Reference;
 
@@ -45,13 +45,21 @@ impl Axis {
         ensures start { result.start ≡ self.start }
         ensures ends { (end : Reference) → IsReference end → AxisAllows result (seen_from self.start end) ↔ (IsInferred self.start end point × AxisAllows self (seen_from self.start end)) }
     {
-        let seen = look(self.start, point);
+        let seen = Seen::from_start(self.start, point);
         Axis {
             start: self.start,
             ahead: self.ahead.with(seen),
-            behind: self.behind.with(turned(seen)),
-            still: both(is_same(point.delta, 0), self.still),
+            behind: self.behind.with(seen.turned()),
+            still: self.is_still_with(point),
         }
+    }
+
+    // Whether neither this point moves nor any taken in.
+    fn is_still_with(self, point: Reference) -> bool
+        requires { IsReference point }
+        ensures { IsTrue result ↔ ((point.delta ≡ pos 0) × IsTrue self.still) }
+    {
+        is_same(point.delta, 0) && self.still
     }
 
     /// Whether all points are inferred between the start and an end.
@@ -60,7 +68,7 @@ impl Axis {
         requires end { IsReference end }
         ensures { IsTrue result ↔ AxisAllows self (seen_from self.start end) }
     {
-        match look(self.start, end) {
+        match Seen::from_start(self.start, end) {
             Seen::Ahead(mark) => self.ahead.allows(mark),
             Seen::Behind(mark) => self.behind.allows(mark),
             Seen::Level(rise) => self.allows_level(rise),
@@ -72,7 +80,7 @@ impl Axis {
         ensures { IsTrue result ↔ LevelAllows self rise }
     {
         if is_same(rise, 0) {
-            both(self.ahead.flat, self.behind.flat)
+            self.ahead.flat && self.behind.flat
         } else {
             self.still
         }

@@ -3,7 +3,7 @@ ghost use Rattle.arc_table.specs.Rays.{IsMark};
 ghost use Rattle.arc_table.specs.Summaries.{IsFar, FarAllows};
 ghost use Rattle.arc_table.specs.declared.seen.Mark.{Mark};
 
-use crate::seen::{Mark, rise_alike};
+use crate::seen::Mark;
 
 /// What the points on one side say of an end there that is no farther than some of them: those have its
 /// delta.
@@ -34,7 +34,7 @@ impl Far {
         ensures ends { (end : Mark) → FarAllows result end ↔ ((end.at ≤ mark.at → mark.rise ≡ end.rise) × FarAllows self end) }
     {
         if self.last.at < mark.at {
-            if rise_alike(self.last, mark) {
+            if self.last.rises_as(mark) {
                 Far {
                     last: mark,
                     torn: self.torn,
@@ -45,7 +45,7 @@ impl Far {
                     torn: self.last.at,
                 }
             }
-        } else if rise_alike(self.last, mark) {
+        } else if self.last.rises_as(mark) {
             self
         } else {
             Far {
@@ -62,7 +62,7 @@ impl Far {
         if self.last.at < end.at {
             true
         } else if self.torn < end.at {
-            rise_alike(self.last, end)
+            self.last.rises_as(end)
         } else {
             false
         }

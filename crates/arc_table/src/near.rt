@@ -3,7 +3,7 @@ ghost use Rattle.arc_table.specs.Rays.{IsMark, OnRay};
 ghost use Rattle.arc_table.specs.Summaries.{IsNear, NearAllows};
 ghost use Rattle.arc_table.specs.declared.seen.Mark.{Mark};
 
-use crate::seen::{Mark, on_ray};
+use crate::seen::Mark;
 
 // A distance past every point.
 const NOWHERE: u32 = 65536;
@@ -41,7 +41,7 @@ impl Near {
         ensures ends { (end : Mark) → IsMark end → NearAllows result end ↔ ((mark.at < end.at → OnRay mark end) × NearAllows self end) }
     {
         if mark.at < self.first.at {
-            if on_ray(mark, self.first) {
+            if mark.is_on_ray_of(self.first) {
                 Near {
                     first: mark,
                     off: self.off,
@@ -52,7 +52,7 @@ impl Near {
                     off: self.first.at,
                 }
             }
-        } else if on_ray(self.first, mark) {
+        } else if self.first.is_on_ray_of(mark) {
             self
         } else {
             Near {
@@ -71,7 +71,7 @@ impl Near {
         if end.at <= self.first.at {
             true
         } else if end.at <= self.off {
-            on_ray(self.first, end)
+            self.first.is_on_ray_of(end)
         } else {
             false
         }

@@ -24,65 +24,63 @@ pub enum Seen {
     Behind(Mark),
 }
 
-/// A point as it is seen from the start.
-pub fn look(start: Reference, point: Reference) -> Seen
-    requires start { IsReference start }
-    requires point { IsReference point }
-    ensures value { result ≡ seen_from start point }
-    ensures within { IsSeen result }
-{
-    let rise = difference(start.delta, point.delta);
-    if start.at < point.at {
-        let at = distance(start.at, point.at);
-        Seen::Ahead(Mark { at, rise })
-    } else if point.at < start.at {
-        let at = distance(point.at, start.at);
-        Seen::Behind(Mark { at, rise })
-    } else {
-        Seen::Level(rise)
+impl Mark {
+    /// Whether the two points lie on one ray from the start: by cross multiplication, so that nothing is
+    /// rounded.
+    pub fn is_on_ray_of(self, other: Mark) -> bool
+        requires at { self.at ≤ 65536 }
+        requires rise { IsDifference self.rise }
+        requires other_at { other.at ≤ 65536 }
+        requires other_rise { IsDifference other.rise }
+        ensures { IsTrue result ↔ OnRay self other }
+    {
+        is_same(times(self.rise, other.at), times(other.rise, self.at))
+    }
+
+    /// Whether the two points have one delta.
+    pub fn rises_as(self, other: Mark) -> bool
+        ensures { IsTrue result ↔ (self.rise ≡ other.rise) }
+    {
+        is_same(self.rise, other.rise)
     }
 }
 
-/// The same with ahead and behind exchanged.
-pub fn turned(seen: Seen) -> Seen
-    ensures { result ≡ turned_round seen }
-{
-    match seen {
-        Seen::Level(rise) => Seen::Level(rise),
-        Seen::Ahead(mark) => Seen::Behind(mark),
-        Seen::Behind(mark) => Seen::Ahead(mark),
+impl Seen {
+    /// A point as it is seen from the start.
+    pub fn from_start(start: Reference, point: Reference) -> Seen
+        requires start { IsReference start }
+        requires point { IsReference point }
+        ensures value { result ≡ seen_from start point }
+        ensures within { IsSeen result }
+    {
+        let rise = difference(start.delta, point.delta);
+        if start.at < point.at {
+            let at = distance(start.at, point.at);
+            Seen::Ahead(Mark { at, rise })
+        } else if point.at < start.at {
+            let at = distance(point.at, start.at);
+            Seen::Behind(Mark { at, rise })
+        } else {
+            Seen::Level(rise)
+        }
     }
-}
 
-/// Whether two points lie on one ray from the start: by cross multiplication, so that nothing is rounded.
-pub fn on_ray(first: Mark, second: Mark) -> bool
-    requires first { first.at ≤ 65536 }
-    requires first_rise { IsDifference first.rise }
-    requires second { second.at ≤ 65536 }
-    requires second_rise { IsDifference second.rise }
-    ensures { IsTrue result ↔ OnRay first second }
-{
-    is_same(times(first.rise, second.at), times(second.rise, first.at))
-}
-
-/// Whether two points have one delta.
-pub fn rise_alike(first: Mark, second: Mark) -> bool
-    ensures { IsTrue result ↔ (first.rise ≡ second.rise) }
-{
-    is_same(first.rise, second.rise)
+    /// The same with ahead and behind exchanged.
+    pub fn turned(self) -> Seen
+        ensures { result ≡ turned_round self }
+    {
+        match self {
+            Seen::Level(rise) => Seen::Level(rise),
+            Seen::Ahead(mark) => Seen::Behind(mark),
+            Seen::Behind(mark) => Seen::Ahead(mark),
+        }
+    }
 }
 
 pub fn is_same(a: i64, b: i64) -> bool
     ensures { IsTrue result ↔ (a ≡ b) }
 {
     a == b
-}
-
-/// Whether both hold.
-pub fn both(first: bool, second: bool) -> bool
-    ensures { IsTrue result ↔ (IsTrue first × IsTrue second) }
-{
-    first && second
 }
 
 fn times(rise: i64, at: u32) -> i64

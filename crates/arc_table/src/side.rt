@@ -5,7 +5,7 @@ ghost use Rattle.arc_table.specs.declared.seen.Mark.{Mark};
 
 use crate::far::Far;
 use crate::near::Near;
-use crate::seen::{Mark, Seen, both, is_same};
+use crate::seen::{Mark, Seen, is_same};
 
 /// What points say of an end ahead of the start.
 #[derive(Clone, Copy)]
@@ -58,7 +58,7 @@ impl Side {
         ensures flat { IsTrue result.flat ↔ (IsTrue flat × IsTrue self.flat) }
     {
         Side {
-            flat: both(flat, self.flat),
+            flat: flat && self.flat,
             near: self.near,
             far: self.far,
         }

@@ -7,17 +7,12 @@ use Rattle.arc_table.proofs.axis.Axis.with.Goals as goal
 
 pub returns-clause-ends : goal.returns-clause-ends
 returns-clause-ends c end fits =
-    let delta_fits : FitsSigned w64 c.args.point.delta = omega (arith, ints) in
-    let turned : c.turned.result ≡ turned_round (seen_from c.args.self.start c.args.point) = c.turned.ensures ∙ ap turned_round c.look-seen.ensures.value in
-    let same = simp to_z-of_z at c.is_same.ensures in
+    let turned : c.turned.result ≡ turned_round (seen_from c.args.self.start c.args.point) = c.turned.ensures ∙ ap turned_round c.from_start-seen.ensures.value in
     axis_with c.args.self _ c.args.self.start end c.args.point c.requires.sound.start fits
     (record {
-      ahead = rw c.look-seen.ensures.value at c.with.ensures.ends;
+      ahead = rw c.from_start-seen.ensures.value at c.with.ensures.ends;
       behind = rw turned at c.with-2.ensures.ends;
-      flat_ahead = rw c.look-seen.ensures.value at c.with.ensures.flat;
+      flat_ahead = rw c.from_start-seen.ensures.value at c.with.ensures.flat;
       flat_behind = rw turned at c.with-2.ensures.flat;
-      still = (
-        λ still. let both = c.both.ensures.0 still in (same.0 both.0, both.1),
-        λ both. c.both.ensures.1 (same.1 both.0, both.1),
-      );
+      still = c.is_still_with.ensures;
     })

@@ -3,7 +3,7 @@ use Rattle.std.proofs.lemmas.Int.{ints}
 use Rattle.std.specs.Int.{w64}
 use Rattle.arc_table.specs.declared.seen.Seen.TheVariants.{Level}
 use Rattle.arc_table.proofs.SeenLemmas.{seen_level}
-use Rattle.arc_table.proofs.seen.look.Goals as goal
+use Rattle.arc_table.proofs.seen.Seen.from_start.Goals as goal
 
 pub returns-else-point-start-clause-value : goal.returns-else-point-start-clause-value
 returns-else-point-start-clause-value c =
