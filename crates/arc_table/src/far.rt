@@ -35,10 +35,7 @@ impl Far {
     {
         if self.last.at < mark.at {
             if self.last.rises_as(mark) {
-                Far {
-                    last: mark,
-                    torn: self.torn,
-                }
+                Far { last: mark, ..self }
             } else {
                 Far {
                     last: mark,
@@ -49,8 +46,8 @@ impl Far {
             self
         } else {
             Far {
-                last: self.last,
                 torn: self.torn.max(mark.at),
+                ..self
             }
         }
     }
@@ -59,12 +56,6 @@ impl Far {
     pub fn allows(self, end: Mark) -> bool
         ensures { IsTrue result ↔ FarAllows self end }
     {
-        if self.last.at < end.at {
-            true
-        } else if self.torn < end.at {
-            self.last.rises_as(end)
-        } else {
-            false
-        }
+        self.last.at < end.at || (self.torn < end.at && self.last.rises_as(end))
     }
 }

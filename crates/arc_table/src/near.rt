@@ -44,7 +44,7 @@ impl Near {
             if mark.is_on_ray_of(self.first) {
                 Near {
                     first: mark,
-                    off: self.off,
+                    ..self
                 }
             } else {
                 Near {
@@ -56,8 +56,8 @@ impl Near {
             self
         } else {
             Near {
-                first: self.first,
                 off: self.off.min(mark.at),
+                ..self
             }
         }
     }
@@ -68,12 +68,6 @@ impl Near {
         requires end { IsMark end }
         ensures { IsTrue result ↔ NearAllows self end }
     {
-        if end.at <= self.first.at {
-            true
-        } else if end.at <= self.off {
-            self.first.is_on_ray_of(end)
-        } else {
-            false
-        }
+        end.at <= self.first.at || (end.at <= self.off && self.first.is_on_ray_of(end))
     }
 }

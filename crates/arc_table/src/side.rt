@@ -59,8 +59,7 @@ impl Side {
     {
         Side {
             flat: flat && self.flat,
-            near: self.near,
-            far: self.far,
+            ..self
         }
     }
 
@@ -70,12 +69,6 @@ impl Side {
         requires end { IsMark end }
         ensures { IsTrue result ↔ SideAllows self end }
     {
-        if !self.flat {
-            false
-        } else if self.near.allows(end) {
-            self.far.allows(end)
-        } else {
-            false
-        }
+        self.flat && self.near.allows(end) && self.far.allows(end)
     }
 }
