@@ -87,16 +87,15 @@ fn arcs_by_hand(rt: HostRuntime) {
 
 // Whether the table is that of the single tests for each contour of so many points on a line, at one of three
 // coordinates and with one of four deltas.
-fn agrees_on_lines(alloc: Global, count: u32) -> Result<bool, NoMemory>
-    requires { count ≤ 4 }
-{
-    for code in 0..12_u32.pow(count) {
+fn agrees_on_lines(alloc: Global, count: u32, contours: u32) -> Result<bool, NoMemory> {
+    for code in 0..contours {
         let mut points = Vec::new(alloc);
         let mut deltas = Vec::new(alloc);
         let mut digits = code;
         for _ in 0..count {
-            points.push((digits as i16 % 3, 0))?;
-            deltas.push((digits as i16 / 3 % 4 - 1, 0))?;
+            let digit = (digits % 12) as i16;
+            points.push((digit % 3, 0))?;
+            deltas.push((digit / 3 - 1, 0))?;
             digits /= 12;
         }
         if lengths(alloc, &points, &deltas)?.is_none() {
@@ -106,26 +105,34 @@ fn agrees_on_lines(alloc: Global, count: u32) -> Result<bool, NoMemory>
     Ok(true)
 }
 
-// Whether it is for many contours of up to ten points in the plane. In each the deltas are one multiple of the
-// coordinates, but for some that are greater by 1. Coordinates and those points look random (by the congruential
-// generator of Knuth's MMIX).
+// A point from some bits and its delta, which is a multiple of the coordinates, in some points greater by 1.
+fn moved_point(bits: u64, multiple: u32) -> ((i16, i16), (i16, i16)) {
+    let x = (bits % 11) as i16 - 5;
+    let y = (bits / 11 % 11) as i16 - 5;
+    let right = i16::from(bits / 121 % 4 == 0);
+    let up = i16::from(bits / 484 % 4 == 0);
+    let delta = match multiple {
+        0 => (right, up),
+        1 => (x + right, y + up),
+        _ => (x + x + right, y + y + up),
+    };
+    ((x, y), delta)
+}
+
+// Whether it is for many contours of up to ten points in the plane that look random (by the congruential generator
+// of Knuth's MMIX).
 fn agrees_in_the_plane(alloc: Global) -> Result<bool, NoMemory> {
     let mut state = 1_u64;
     for round in 0..20000_u32 {
-        let multiple = (round / 10 % 3) as i16;
         let mut points = Vec::new(alloc);
         let mut deltas = Vec::new(alloc);
         for _ in 0..round % 10 + 1 {
             state = state
                 .wrapping_mul(6364136223846793005)
                 .wrapping_add(1442695040888963407);
-            let high = state >> 33;
-            let x = (high % 11) as i16 - 5;
-            let y = (high / 11 % 11) as i16 - 5;
-            let right = i16::from(high / 121 % 4 == 0);
-            let up = i16::from(high / 484 % 4 == 0);
-            points.push((x, y))?;
-            deltas.push((x * multiple + right, y * multiple + up))?;
+            let (point, delta) = moved_point(state >> 33, round / 10 % 3);
+            points.push(point)?;
+            deltas.push(delta)?;
         }
         if lengths(alloc, &points, &deltas)?.is_none() {
             return Ok(false);
@@ -137,12 +144,9 @@ fn agrees_in_the_plane(alloc: Global) -> Result<bool, NoMemory> {
 #[test]
 fn table_as_single_tests(rt: HostRuntime) {
     let alloc = rt.alloc();
-    for count in 1..5 {
-        assert_eq!(rt;
-            agrees_on_lines(alloc, count),
-            Ok(true),
-            "{count} points on a line"
-        );
+    for (count, contours) in [(1, 12), (2, 144), (3, 1728), (4, 20736)] {
+        let agrees = agrees_on_lines(alloc, count, contours);
+        assert_eq!(rt; agrees, Ok(true), "{count} points on a line");
     }
     assert_eq!(rt; agrees_in_the_plane(alloc), Ok(true));
 }
