@@ -64,7 +64,7 @@ fn allow(x: Axis, y: Axis, right: Reference, up: Reference) -> bool
     requires up { IsReference up }
     ensures { IsTrue result ↔ (AxisAllows x (seen_from x.start right) × AxisAllows y (seen_from y.start up)) }
 {
-    if x.allows(right) { y.allows(up) } else { false }
+    x.allows(right) && y.allows(up)
 }
 
 // The point at a place of the rolled-out contour, in x.
