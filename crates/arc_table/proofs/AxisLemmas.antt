@@ -10,10 +10,10 @@ use Rattle.arc_table.specs.declared.near.Near.{Near}
 use Rattle.arc_table.specs.declared.far.Far.{Far}
 use Rattle.arc_table.specs.declared.side.Side.{Side}
 use Rattle.arc_table.specs.declared.axis.Axis.{Axis}
-use Rattle.arc_table.specs.Rays.{IsMark, IsSeen, IsFlat, OnRay, Fits, FitsAhead, FitsBeyond, IsInferred, turned_round, seen_from}
-use Rattle.arc_table.specs.Summaries.{NearAllows, FarAllows, SideAllows, AxisAllows, IsAxis, HasTaken}
+use Rattle.arc_table.specs.Rays.{IsMark, IsSeen, IsFlat, OnRay, FitsAhead, FitsBeyond, IsInferred, turned_round, seen_from}
+use Rattle.arc_table.specs.Summaries.{NearAllows, FarAllows, SideAllows, AxisAllows, IsAxis}
 use Rattle.arc_table.proofs.SeenLemmas.{seen_within, flat_both}
-use Rattle.arc_table.proofs.FitLemmas.{inferred_fits}
+use Rattle.arc_table.proofs.FitLemmas.{Fits, inferred_fits}
 
 -- a point ahead
 pub side_with : (side : Side) (near : Near) (far : Far) (mark end : Mark) → (NearAllows near end ↔ ((mark.at < end.at → OnRay mark end) × NearAllows side.near end)) → (FarAllows far end ↔ ((end.at ≤ mark.at → mark.rise ≡ end.rise) × FarAllows side.far end)) → SideAllows (record { flat = side.flat; near = near; far = far }) end ↔ (FitsBeyond end mark × SideAllows side end)
@@ -78,6 +78,13 @@ seen_new axis flat_ahead flat_behind still ahead behind (Behind mark) within = b
 pub axis_new : (axis : Axis) (start end : Reference) → IsReference start → IsReference end → IsTrue axis.ahead.flat → IsTrue axis.behind.flat → IsTrue axis.still → ((mark : Mark) → IsMark mark → SideAllows axis.ahead mark) → ((mark : Mark) → IsMark mark → SideAllows axis.behind mark) → AxisAllows axis (seen_from start end)
 axis_new axis start end first second flat_ahead flat_behind still ahead behind =
     seen_new axis flat_ahead flat_behind still ahead behind (seen_from start end) (seen_within start end first second)
+
+-- The points taken in are those between two places of the rolled-out contour: the ends allowed are those between
+-- which and the first place they are inferred.
+pub record HasTaken (point : ℕ → Reference) (from to : ℕ) (axis : Axis) : Type 0 where
+  pub sound : IsAxis axis
+  pub start : axis.start ≡ point from
+  pub ends : (end : ℕ) → AxisAllows axis (seen_from (point from) (point end)) ↔ ((q : ℕ) → from < q → q < to → IsInferred (point from) (point end) (point q))
 
 -- an axis that allows every end has taken no place
 pub taken_first : (point : ℕ → Reference) (from : ℕ) (axis : Axis) (start : Reference) → start ≡ point from → ((end : ℕ) → IsReference (point end)) → IsAxis axis → axis.start ≡ start → ((end : Reference) → IsReference end → AxisAllows axis (seen_from start end)) → HasTaken point from (from + 1) axis

@@ -5,9 +5,17 @@ use Rattle.std.proofs.lemmas.Int.{ints, by_lt_z}
 use Rattle.variation_rules.specs.InferredDelta.{OnLine, Between}
 use Rattle.variation_rules.specs.declared.inferred.Reference.{Reference}
 use Rattle.variation_rules.proofs.InferredLemmas.{between_agree, between_differ, between_below, between_above, between_inside, between_turned}
-use Rattle.arc_table.specs.Rays.{Fits, FitsBeyond, IsInferred, rise_of, seen_at, seen_from}
+use Rattle.arc_table.specs.declared.seen.Seen.{Seen}
+use Rattle.arc_table.specs.declared.seen.Seen.TheVariants.{Level, Ahead, Behind}
+use Rattle.arc_table.specs.Rays.{FitsAhead, FitsBeyond, IsInferred, turned_round, seen_at, seen_from}
 use Rattle.arc_table.proofs.RayLemmas.{times_pos, pos_times, times_neg, neg_times, part_of}
-use Rattle.arc_table.proofs.SeenLemmas.{rise_seen}
+use Rattle.arc_table.proofs.SeenLemmas.{rise_of, rise_seen}
+
+-- a point with such a delta is inferred between the start and an end, by what is seen of both
+abbrev pub Fits : Seen → Seen → ℤ → Type 0
+Fits (Level rise) point delta = (rise ≡ pos 0 → rise_of point ≡ pos 0) × (rise ≢ pos 0 → delta ≡ pos 0)
+Fits (Ahead end) point delta = FitsAhead end point
+Fits (Behind end) point delta = FitsAhead end (turned_round point)
 
 -- on the line between references ahead of the first one: on its ray
 ray_from_rising : (c1 d1 c2 d2 c d : ℤ) (a b : ℕ) → c -ℤ c1 ≡ pos a → c2 -ℤ c1 ≡ pos b → OnLine c1 d1 c2 d2 c d → (d -ℤ d1) *ℤ pos b ≡ (d2 -ℤ d1) *ℤ pos a

@@ -5,7 +5,13 @@ use Rattle.variation_rules.specs.FontUnits.{IsDifference, IsReference}
 use Rattle.variation_rules.specs.declared.inferred.Reference.{Reference}
 use Rattle.arc_table.specs.declared.seen.Seen.{Seen}
 use Rattle.arc_table.specs.declared.seen.Seen.TheVariants.{Level, Ahead, Behind}
-use Rattle.arc_table.specs.Rays.{IsSeen, IsFlat, rise_of, turned_round, seen_at, seen_from}
+use Rattle.arc_table.specs.Rays.{IsSeen, IsFlat, turned_round, seen_at, seen_from}
+
+-- the point's delta less the start's
+abbrev pub rise_of : Seen → ℤ
+rise_of (Level rise) = rise
+rise_of (Ahead mark) = mark.rise
+rise_of (Behind mark) = mark.rise
 
 -- at the start's coordinate
 pub seen_level : (z rise : ℤ) → z ≡ pos 0 → seen_at z rise ≡ Level rise

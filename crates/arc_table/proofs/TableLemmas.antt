@@ -12,7 +12,8 @@ use Rattle.variation_rules.proofs.FillingLemmas.{each_pushed}
 use Rattle.iup.specs.Arcs.{IsContour, Arc}
 use Rattle.arc_table.specs.declared.axis.Axis.{Axis}
 use Rattle.arc_table.specs.Rays.{seen_from}
-use Rattle.arc_table.specs.Summaries.{AxisAllows, HasTaken, across, upward}
+use Rattle.arc_table.specs.Summaries.{AxisAllows, across, upward}
+use Rattle.arc_table.proofs.AxisLemmas.{HasTaken}
 use Rattle.arc_table.specs.Table.{IsEntry, TellsArcs, TellsSoFar}
 
 -- the points of a contour are references, in x and in y

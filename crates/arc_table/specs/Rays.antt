@@ -1,6 +1,6 @@
 -- Points as they are seen from the start of an arc, in one coordinate, and which of them are inferred between the
 -- start and an end that is seen too.
-use Rattle.std.specs.Prelude.{◌≡◌, ◌≢◌, ℤ, zero, suc, pos, negsuc, ◌-ℤ◌, ◌*ℤ◌, ◌<◌, ◌≤◌}
+use Rattle.std.specs.Prelude.{◌≡◌, ℤ, zero, suc, pos, negsuc, ◌-ℤ◌, ◌*ℤ◌, ◌<◌, ◌≤◌}
 use Rattle.variation_rules.specs.FontUnits.{IsDifference}
 use Rattle.variation_rules.specs.InferredDelta.{Between}
 use Rattle.variation_rules.specs.declared.inferred.Reference.{Reference}
@@ -40,33 +40,23 @@ IsSeen (Level rise) = IsDifference rise
 IsSeen (Ahead mark) = IsMark mark
 IsSeen (Behind mark) = IsMark mark
 
-abbrev pub rise_of : Seen → ℤ
-rise_of (Level rise) = rise
-rise_of (Ahead mark) = mark.rise
-rise_of (Behind mark) = mark.rise
-
 -- a point that isn't ahead has the start's delta
 abbrev pub IsFlat : Seen → Type 0
 IsFlat (Level rise) = rise ≡ pos 0
 IsFlat (Ahead mark) = Unit {0}
 IsFlat (Behind mark) = mark.rise ≡ pos 0
 
--- a point ahead is inferred between the start and an end ahead
+-- a point ahead is inferred between the start and an end ahead: on the line where it is nearer, and with the end's
+-- delta where it isn't
 pub record FitsBeyond (end mark : Mark) : Type 0 where
   pub before : mark.at < end.at → OnRay mark end
   pub past : end.at ≤ mark.at → mark.rise ≡ end.rise
 
--- a point is
+-- any point is: with the start's delta where it isn't ahead
 abbrev pub FitsAhead : Mark → Seen → Type 0
 FitsAhead end (Level rise) = rise ≡ pos 0
 FitsAhead end (Ahead mark) = FitsBeyond end mark
 FitsAhead end (Behind mark) = mark.rise ≡ pos 0
-
--- a point with such a delta is inferred between the start and the end
-abbrev pub Fits : Seen → Seen → ℤ → Type 0
-Fits (Level rise) point delta = (rise ≡ pos 0 → rise_of point ≡ pos 0) × (rise ≢ pos 0 → delta ≡ pos 0)
-Fits (Ahead end) point delta = FitsAhead end point
-Fits (Behind end) point delta = FitsAhead end (turned_round point)
 
 -- a point's delta is inferred from two references, in one coordinate
 abbrev pub IsInferred : Reference → Reference → Reference → Type 0

@@ -1,5 +1,5 @@
 -- What the points taken in so far say of the ends that their arc may have.
-use Rattle.std.specs.Prelude.{◌≡◌, ◌≢◌, ℕ, ℤ, pos, ◌<◌, ◌≤◌, ◌⊎◌, ◌↔◌, IsTrue, List}
+use Rattle.std.specs.Prelude.{◌≡◌, ◌≢◌, ℕ, ℤ, pos, ◌<◌, ◌≤◌, ◌⊎◌, IsTrue, List}
 use Rattle.fixpoint.specs.declared.plane.Pair.{Pair}
 use Rattle.variation_rules.specs.FontUnits.{IsDifference, IsReference}
 use Rattle.variation_rules.specs.InferredDelta.{around}
@@ -11,9 +11,9 @@ use Rattle.arc_table.specs.declared.near.Near.{Near}
 use Rattle.arc_table.specs.declared.far.Far.{Far}
 use Rattle.arc_table.specs.declared.side.Side.{Side}
 use Rattle.arc_table.specs.declared.axis.Axis.{Axis}
-use Rattle.arc_table.specs.Rays.{OnRay, seen_from, IsInferred}
+use Rattle.arc_table.specs.Rays.{OnRay}
 
--- distances of at most 65536, the first of them the least
+-- the distances are at most 65536, which is past every point, and the nearest point's is the least
 pub record IsNear (near : Near) : Type 0 where
   pub some : 0 < near.first.at
   pub first : near.first.at ≤ near.off
@@ -24,6 +24,7 @@ pub record IsNear (near : Near) : Type 0 where
 abbrev pub NearAllows : Near → Mark → Type 0
 NearAllows near end = (end.at ≤ near.first.at) ⊎ (OnRay near.first end × (end.at ≤ near.off))
 
+-- no point is farther than the farthest
 pub record IsFar (far : Far) : Type 0 where
   pub torn : far.torn ≤ far.last.at
 
@@ -31,16 +32,18 @@ pub record IsFar (far : Far) : Type 0 where
 abbrev pub FarAllows : Far → Mark → Type 0
 FarAllows far end = (far.last.at < end.at) ⊎ ((far.last.rise ≡ end.rise) × (far.torn < end.at))
 
+-- both summaries are sound
 pub record IsSide (side : Side) : Type 0 where
   pub near : IsNear side.near
   pub far : IsFar side.far
 
--- the points taken in allow an end ahead
+-- the points taken in are inferred between the start and an end ahead
 pub record SideAllows (side : Side) (end : Mark) : Type 0 where
   pub flat : IsTrue side.flat
   pub near : NearAllows side.near end
   pub far : FarAllows side.far end
 
+-- both sides are sound, and the start is a point that 16 bits hold
 pub record IsAxis (axis : Axis) : Type 0 where
   pub start : IsReference axis.start
   pub ahead : IsSide axis.ahead
@@ -51,7 +54,7 @@ pub record LevelAllows (axis : Axis) (rise : ℤ) : Type 0 where
   pub agree : rise ≡ pos 0 → IsTrue axis.ahead.flat × IsTrue axis.behind.flat
   pub differ : rise ≢ pos 0 → IsTrue axis.still
 
--- they allow an end
+-- the points taken in are inferred between the start and an end
 abbrev pub AxisAllows : Axis → Seen → Type 0
 AxisAllows axis (Level rise) = LevelAllows axis rise
 AxisAllows axis (Ahead end) = SideAllows axis.ahead end
@@ -63,10 +66,3 @@ across points deltas place = record { at = (around points place).x; delta = (aro
 
 abbrev pub upward : List Pair → List Pair → ℕ → Reference
 upward points deltas place = record { at = (around points place).y; delta = (around deltas place).y }
-
--- the points taken in are those between two places: the ends allowed are those between which and the first place
--- they are inferred
-pub record HasTaken (point : ℕ → Reference) (from to : ℕ) (axis : Axis) : Type 0 where
-  pub sound : IsAxis axis
-  pub start : axis.start ≡ point from
-  pub ends : (end : ℕ) → AxisAllows axis (seen_from (point from) (point end)) ↔ ((q : ℕ) → from < q → q < to → IsInferred (point from) (point end) (point q))

@@ -1,6 +1,7 @@
 use Rattle.std.proofs.Common.{◌+◌, ◌*◌, length}
-use Rattle.arc_table.specs.Summaries.{HasTaken, across, upward}
+use Rattle.arc_table.specs.Summaries.{across, upward}
 use Rattle.arc_table.specs.Table.{TellsSoFar}
+use Rattle.arc_table.proofs.AxisLemmas.{HasTaken}
 use Rattle.arc_table.proofs.table.push_row.Given as goal
 
 abbrev pub invariant-loop-k : goal.invariant-loop-k

@@ -1,6 +1,4 @@
-use Rattle.std.proofs.Common.{◌≡◌, FitsSigned, to_z-of_z, ◌∙◌, ap, arith}
-use Rattle.std.proofs.lemmas.Int.{ints}
-use Rattle.std.specs.Int.{w64}
+use Rattle.std.proofs.Common.{◌≡◌, ◌∙◌, ap}
 use Rattle.arc_table.specs.Rays.{turned_round, seen_from}
 use Rattle.arc_table.proofs.AxisLemmas.{axis_with}
 use Rattle.arc_table.proofs.axis.Axis.with.Goals as goal
