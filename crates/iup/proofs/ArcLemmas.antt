@@ -1,12 +1,12 @@
 -- Arcs are the same in each round of the cycle.
-use Rattle.std.proofs.Common.{◌≡◌, ℕ, ◌+◌, ◌-◌, ◌*◌, ◌%◌, ◌<◌, ◌≤◌, List, [], ◌∷◌, length, get_or, inl, inr, refl, sym, ◌∙◌, ap, subst, arith}
+use Rattle.std.proofs.Common.{◌≡◌, ℕ, ◌+◌, ◌-◌, ◌%◌, ◌<◌, ◌≤◌, List, [], ◌∷◌, length, get_or, inl, inr, refl, sym, ◌∙◌, ap, subst, arith}
 use Rattle.std.proofs.Math.Nat.{add-mod_right, mod-add-mod, mod-mod}
 use Rattle.fixpoint.specs.declared.plane.Pair.{Pair}
 use Rattle.variation_rules.specs.InferredDelta.{Inferred, around, still}
 use Rattle.iup.specs.Arcs.{Spans, Arc, Links, RisesFrom}
-use Rattle.iup.specs.Bounds.{IsCyclic, Reaches, IsStartPoint, PassesOver}
+use Rattle.iup.specs.Bounds.{IsCyclic, Reaches, IsStartPoint}
 use Rattle.iup.proofs.Paths.{Round}
-use Rattle.iup.proofs.Starts.{IsStart, StepsOver}
+use Rattle.iup.proofs.Starts.{IsStart}
 
 -- places that are one on the cycle have the same pair
 around_same : (pairs : List Pair) (n u w : ℕ) → length pairs ≡ n → u % n ≡ w % n → around pairs u ≡ around pairs w
@@ -87,6 +87,11 @@ arc_from_step points deltas s a b size reach =
     let end : s + b ≡ s + a + (b - a) = omega arith in
     spans_same points deltas (s + a) ((s + a) % length points) (b - a) size (sym (mod-mod (s + a) (length points)))
     (subst (λ x. Spans points deltas (s + a) x) end reach.spans)
+
+pub arc_from_place : (points deltas : List Pair) (a b : ℕ) → length deltas ≡ length points → Reaches points deltas a b → Arc points deltas (a % length points) (b - a)
+arc_from_place points deltas a b size reach =
+    let ahead = reach.ahead in
+    spans_same points deltas a (a % length points) (b - a) size (sym (mod-mod a (length points))) (spans_to points deltas a b (omega arith) reach.spans)
 
 pub step_from_arc : (points deltas : List Pair) (u k : ℕ) → length deltas ≡ length points → 0 < k → k ≤ length points → Arc points deltas (u % length points) k → Reaches points deltas u (u + k)
 step_from_arc points deltas u k size some few arc = record {

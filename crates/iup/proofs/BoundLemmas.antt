@@ -2,7 +2,7 @@
 use Rattle.std.proofs.Common.{◌≡◌, ℕ, suc, ◌+◌, ◌-◌, ◌<◌, ◌≤◌, List, ◌∷◌, length, get_or, ap, arith}
 use Rattle.fixpoint.specs.declared.plane.Pair.{Pair}
 use Rattle.iup.specs.Arcs.{Infers, RisesFrom}
-use Rattle.iup.specs.Bounds.{Path, Reaches, IsRightRow, Bounds}
+use Rattle.iup.specs.Bounds.{Path, Reaches, IsRightRow}
 use Rattle.iup.specs.Laws.{RowsBound}
 use Rattle.iup.proofs.Paths.{row_bounds, path_from_round}
 use Rattle.iup.proofs.Starts.{closed_least}

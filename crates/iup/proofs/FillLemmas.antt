@@ -1,15 +1,15 @@
 -- A set infers the deltas exactly where they fill the contour from it.
-use Rattle.std.proofs.Common.{◌≡◌, ℕ, ◌+◌, ◌-◌, ◌*◌, ◌/◌, ◌%◌, ◌<◌, ◌≤◌, ◌⊎◌, List, [], ◌∷◌, length, get_or, None, inl, inr, refl, sym, ◌∙◌, ap, subst, ⊎_elim, arith}
+use Rattle.std.proofs.Common.{◌≡◌, ℕ, ◌+◌, ◌-◌, ◌*◌, ◌/◌, ◌%◌, ◌<◌, ◌≤◌, ◌⊎◌, List, [], ◌∷◌, length, inl, inr, refl, sym, ◌∙◌, ap, subst, ⊎_elim, arith}
 use Rattle.std.proofs.Math.Nat.{add-mod_right, mod-eq_of_lt, mod-add-div, add-mul-mod_self_left}
 use Rattle.std.proofs.lemmas.Bool.{cases_lt}
 use Rattle.std.proofs.lemmas.List.Elements.{All-from_get_or}
 use Rattle.fixpoint.specs.declared.plane.Pair.{Pair}
-use Rattle.variation_rules.specs.InferredDelta.{Inferred, AreNearest, FillsContour, around, still}
+use Rattle.variation_rules.specs.InferredDelta.{Inferred, AreNearest, FillsContour, still}
 use Rattle.variation_rules.proofs.DrawingLemmas.{around_within}
 use Rattle.iup.specs.Arcs.{Spans, Links, Infers, RisesFrom, given_by}
 use Rattle.iup.specs.Laws.{InfersAsFilled}
 use Rattle.iup.proofs.ArcLemmas.{inferred_same}
-use Rattle.iup.proofs.SetLemmas.{IsIn, in_bounds, in_from_given, given_some, given_out, out_from_given, given_in, given_value}
+use Rattle.iup.proofs.SetLemmas.{IsIn, in_bounds, in_from_given, given_some, given_out, out_from_given, given_value}
 
 -- the member after one, or the end of the round where it is the last
 record NextAfter (points deltas : List Pair) (set : List ℕ) (end u : ℕ) : Type 0 where

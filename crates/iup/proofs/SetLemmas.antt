@@ -1,5 +1,5 @@
 -- The members of a rising set, and what a tuple that names them gives.
-use Rattle.std.proofs.Common.{◌≡◌, ℕ, ◌+◌, ◌<◌, ◌≤◌, ◌⊎◌, List, [], ◌∷◌, length, drop, get_or, ◌↔◌, Option, Some, None, IsSome, inl, inr, refl, sym, ◌∙◌, ap, subst, ⊎_elim, arith}
+use Rattle.std.proofs.Common.{◌≡◌, ℕ, ◌+◌, ◌<◌, ◌≤◌, ◌⊎◌, List, [], ◌∷◌, ◌++◌, length, drop, get_or, ◌↔◌, Some, None, IsSome, inl, inr, refl, ⊎_elim, arith}
 use Rattle.std.proofs.lemmas.Bool.{eq-eqb, ne_eqb, cases_eq}
 use Rattle.fixpoint.specs.declared.plane.Pair.{Pair}
 use Rattle.variation_rules.specs.InferredDelta.{still}
@@ -82,3 +82,16 @@ links_end points deltas from end k members W ended whole = rw (drop_all k member
 -- a rising list from one of its members on
 pub rises_on : (low n k : ℕ) (members : List ℕ) → k < length members → RisesFrom low n (drop k members) → (low ≤ get_or members k 0) × (get_or members k 0 < n) × RisesFrom (get_or members k 0 + 1) n (drop (k + 1) members)
 rises_on low n k members inside rises = rw (drop_more members k 0 inside) at rises
+
+-- a rising list under a higher bound, and with one number more
+pub rises_below : (low n m : ℕ) (xs : List ℕ) → n ≤ m → RisesFrom low n xs → RisesFrom low m xs
+rises_below low n m [] wider rises = tt
+rises_below low n m (x ∷ xs) wider rises =
+    let below : x < n = rises.1 in
+    (rises.0, omega arith, rises_below (x + 1) n m xs wider rises.2)
+
+pub rises_push : (low n x : ℕ) (xs : List ℕ) → low ≤ x → x < n → RisesFrom low x xs → RisesFrom low n (xs ++ x ∷ [])
+rises_push low n x [] above below rises = (above, below, tt)
+rises_push low n x (y ∷ ys) above below rises =
+    let before : y < x = rises.1 in
+    (rises.0, omega arith, rises_push (y + 1) n x ys (omega arith) below rises.2)

@@ -1,4 +1,4 @@
-use Rattle.std.proofs.Common.{◌<◌, ◌≤◌, ◌+◌, length, get_or, arith}
+use Rattle.std.proofs.Common.{◌<◌, ◌+◌, length, arith}
 use Rattle.iup.specs.Arcs.{Links}
 use Rattle.iup.proofs.SetLemmas.{links_on, links_end, rises_on}
 use Rattle.iup.proofs.sets.are_linked.Goals as goal
