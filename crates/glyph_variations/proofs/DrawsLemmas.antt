@@ -1,9 +1,9 @@
 -- The tuple variations of a glyph draw the model of its masters.
-use Rattle.std.proofs.Common.{◌≡◌, ℕ, ℤ, zero, suc, pos, ◌+◌, ◌<◌, ◌≤◌, min, ◌+ℤ◌, ◌-ℤ◌, ◌*ℤ◌, List, [], ◌∷◌, ◌++◌, length, map, flat_map, get_or, All, sum, refl, sym, ◌∙◌, ap, subst, arith}
+use Rattle.std.proofs.Common.{◌≡◌, ℕ, ℤ, zero, suc, pos, ◌<◌, ◌≤◌, ◌+ℤ◌, ◌-ℤ◌, ◌*ℤ◌, List, [], ◌∷◌, ◌++◌, length, map, get_or, All, sum, refl, sym, ◌∙◌, ap, subst, arith}
 use Rattle.std.proofs.lemmas.Int.{ints}
 use Rattle.std.proofs.lemmas.List.{ext_get_or, get_or-map, length-map}
 use Rattle.std.proofs.lemmas.List.Concat.{length-flat_map}
-use Rattle.std.proofs.lemmas.List.Elements.{All-tail, All-nil}
+use Rattle.std.proofs.lemmas.List.Elements.{All-tail}
 use Rattle.std.proofs.lemmas.List.Sums.{sum-map}
 use Rattle.fixpoint.specs.Rounding.{round_up, round_down}
 use Rattle.fixpoint.specs.declared.plane.Pair.{Pair}
@@ -11,7 +11,7 @@ use Rattle.fixpoint.proofs.RoundingLemmas.{comes_back, scaled_by_one}
 use Rattle.glif.specs.declared.shape.Outline.{Outline}
 use Rattle.glif.specs.declared.shape.Point.{Point}
 use Rattle.variation_rules.specs.InferredDelta.{still}
-use Rattle.variation_rules.specs.DrawnOutline.{Fills, drawn, drawn_advance}
+use Rattle.variation_rules.specs.DrawnOutline.{Fills}
 use Rattle.variation_rules.specs.Scalar.{scalar_of}
 use Rattle.variation_rules.specs.declared.region.Triple.{Triple}
 use Rattle.variation_rules.specs.declared.tuple.TupleVariation.{TupleVariation}
@@ -22,7 +22,7 @@ use Rattle.delta_solve.specs.GlyphModels.{AreTuplesBy, default_of, delta_advance
 use Rattle.delta_solve.specs.Outlines.{advance_of, all_points, contour_lengths, place, points_of, x_at, x_of, y_at, y_of}
 use Rattle.delta_solve.specs.declared.model.GlyphTuple.{GlyphTuple}
 use Rattle.delta_solve.proofs.MasterLaw.{masters_return}
-use Rattle.glyph_variations.specs.Draws.{Draws, DrawsMasters, DrawsModel, ModelsAreDrawn, outline_at}
+use Rattle.glyph_variations.specs.Draws.{Draws, DrawsMasters, DrawsModel, ModelsAreDrawn}
 use Rattle.glyph_variations.specs.Variations.{variations_of}
 use Rattle.glyph_variations.proofs.MovingLemmas.{moving_advance, moving_filled, moving_fills, moving_moves}
 
@@ -79,18 +79,18 @@ drawn_over regions region rows row locations lengths outline outlines tuple tupl
       xs = λ at point below.
           ap (λ z. (pos 65536 *ℤ x_at point (points_of outline)) +ℤ z) (moving_moves (λ (pair : Pair). pair.x) lengths tuple.deltas regions tuples at point refl)
           ∙ (ap (λ deltas. (pos 65536 *ℤ x_at point deltas) +ℤ dot (scalars_at regions at) (map (delta_x point) tuples)) (sym same)
-            ∙ (sym (value_over region regions at (delta_x point) tuple tuples (whole 16 at))
-              ∙ (ap (λ deltas. model_value all deltas at) (are.xs point below) ∙ ap (λ rows. model_value all (deltas_by rows (map (x_of point) (outline ∷ outlines))) at) (sym rows_are))));
+          ∙ (sym (value_over region regions at (delta_x point) tuple tuples (whole 16 at))
+          ∙ (ap (λ deltas. model_value all deltas at) (are.xs point below) ∙ ap (λ rows. model_value all (deltas_by rows (map (x_of point) (outline ∷ outlines))) at) (sym rows_are))));
       ys = λ at point below.
           ap (λ z. (pos 65536 *ℤ y_at point (points_of outline)) +ℤ z) (moving_moves (λ (pair : Pair). pair.y) lengths tuple.deltas regions tuples at point refl)
           ∙ (ap (λ deltas. (pos 65536 *ℤ y_at point deltas) +ℤ dot (scalars_at regions at) (map (delta_y point) tuples)) (sym same)
-            ∙ (sym (value_over region regions at (delta_y point) tuple tuples (whole 16 at))
-              ∙ (ap (λ deltas. model_value all deltas at) (are.ys point below) ∙ ap (λ rows. model_value all (deltas_by rows (map (y_of point) (outline ∷ outlines))) at) (sym rows_are))));
+          ∙ (sym (value_over region regions at (delta_y point) tuple tuples (whole 16 at))
+          ∙ (ap (λ deltas. model_value all deltas at) (are.ys point below) ∙ ap (λ rows. model_value all (deltas_by rows (map (y_of point) (outline ∷ outlines))) at) (sym rows_are))));
       advances = λ at.
           ap (λ z. (pos 65536 *ℤ advance_of outline) +ℤ z) (moving_advance lengths tuple.deltas regions tuples at (length (points_of outline)) (All-tail (λ (tuple : GlyphTuple). length tuple.deltas ≡ length (points_of outline)) tuple tuples are.points))
           ∙ (ap (λ advance. (pos 65536 *ℤ advance) +ℤ dot (scalars_at regions at) (map delta_advance tuples)) (sym (default_advance row rows outline outlines tuple tuples are))
-            ∙ (sym (value_over region regions at delta_advance tuple tuples (whole 16 at))
-              ∙ (ap (λ deltas. model_value all deltas at) are.advances ∙ ap (λ rows. model_value all (deltas_by rows (map advance_of (outline ∷ outlines))) at) (sym rows_are))));
+          ∙ (sym (value_over region regions at delta_advance tuple tuples (whole 16 at))
+          ∙ (ap (λ deltas. model_value all deltas at) are.advances ∙ ap (λ rows. model_value all (deltas_by rows (map advance_of (outline ∷ outlines))) at) (sym rows_are))));
     }
 
 -- ---- at the masters' locations
@@ -119,15 +119,15 @@ masters_drawn regions locations outlines tuples fills ends enough model =
       xs = λ master point among below.
           ap (λ z. round_up z 65536) (model.xs (get_or locations master []) point below)
           ∙ (come_at regions (deltas_of regions locations (map (x_of point) outlines)) locations (map (x_of point) outlines) master (back (map (x_of point) outlines)) (omega arith) (omega (arith, length-map outlines (x_of point)))
-            ∙ get_or-map (x_of point) outlines master (default_of outlines) (pos 0) among);
+          ∙ get_or-map (x_of point) outlines master (default_of outlines) (pos 0) among);
       ys = λ master point among below.
           ap (λ z. round_up z 65536) (model.ys (get_or locations master []) point below)
           ∙ (come_at regions (deltas_of regions locations (map (y_of point) outlines)) locations (map (y_of point) outlines) master (back (map (y_of point) outlines)) (omega arith) (omega (arith, length-map outlines (y_of point)))
-            ∙ get_or-map (y_of point) outlines master (default_of outlines) (pos 0) among);
+          ∙ get_or-map (y_of point) outlines master (default_of outlines) (pos 0) among);
       advances = λ master among.
           ap (λ z. round_up z 65536) (model.advances (get_or locations master []))
           ∙ (come_at regions (deltas_of regions locations (map advance_of outlines)) locations (map advance_of outlines) master (back (map advance_of outlines)) (omega arith) (omega (arith, length-map outlines advance_of))
-            ∙ get_or-map advance_of outlines master (default_of outlines) (pos 0) among);
+          ∙ get_or-map advance_of outlines master (default_of outlines) (pos 0) among);
     }
 
 -- ---- both

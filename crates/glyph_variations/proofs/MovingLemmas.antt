@@ -1,5 +1,5 @@
 -- What the tuple variations of the masters behind the default add to each point.
-use Rattle.std.proofs.Common.{◌≡◌, ◌≢◌, ◌⊎◌, ℕ, ℤ, zero, suc, pos, ◌+◌, ◌<◌, ◌≤◌, ◌+ℤ◌, ◌*ℤ◌, Bool, true, false, ◌&&◌, List, [], ◌∷◌, ◌++◌, length, map, get_or, All, Some, sum, if◌then◌else◌, refl, sym, ◌∙◌, ap, inl, inr, arith}
+use Rattle.std.proofs.Common.{◌≡◌, ◌≢◌, ◌⊎◌, ℕ, ℤ, zero, suc, pos, ◌+◌, ◌<◌, ◌+ℤ◌, ◌*ℤ◌, Bool, true, false, ◌&&◌, List, [], ◌∷◌, ◌++◌, length, map, get_or, All, Some, sum, if◌then◌else◌, refl, sym, ◌∙◌, ap, inl, inr, arith}
 use Rattle.std.proofs.lemmas.Int.{ints}
 use Rattle.std.proofs.lemmas.List.{append_assoc, get_or_at, get_or_append_left, get_or-append-add, length-append, length_push}
 use Rattle.std.proofs.lemmas.List.Elements.{All-head, All-tail}
@@ -18,7 +18,7 @@ use Rattle.region_support.proofs.AxisLemmas.{eq_tells}
 use Rattle.delta_solve.specs.Deltas.{dot, scalars_at}
 use Rattle.delta_solve.specs.GlyphModels.{delta_advance}
 use Rattle.delta_solve.specs.declared.model.GlyphTuple.{GlyphTuple}
-use Rattle.glyph_variations.specs.Variations.{all_deltas, chosen, is_still, is_still_tuple, moving, phantom_deltas, picked, variation_with}
+use Rattle.glyph_variations.specs.Variations.{all_deltas, is_still, is_still_tuple, moving, phantom_deltas, picked, variation_with}
 
 -- ---- deltas of points that are all named
 

@@ -1,5 +1,5 @@
 -- What the model of a glyph and the regions of its masters are like, so that their tuple variations can be written.
-use Rattle.std.specs.Prelude.{◌≡◌, ℕ, ◌<◌, ◌≤◌, List, [], ◌∷◌, length, All, slice_index_or}
+use Rattle.std.specs.Prelude.{◌≡◌, ℕ, ◌<◌, ◌≤◌, List, [], ◌∷◌, length, All}
 use Rattle.arrayvec.specs.ArrayVec.{ArrayVec, array_vec_len}
 use Rattle.variation_rules.specs.declared.region.Triple.{Triple}
 use Rattle.region_support.specs.Places.{regions_in}

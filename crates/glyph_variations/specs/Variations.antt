@@ -1,5 +1,5 @@
 -- The tuple variations of a glyph (OpenType, "gvar"): for each master behind the default its region and its deltas.
-use Rattle.std.specs.Prelude.{◌≡◌, ℕ, ℤ, pos, ◌+◌, ◌*◌, Bool, ◌&&◌, List, [], ◌∷◌, ◌++◌, length, map, if◌then◌else◌, nat_lt, slice_index_or}
+use Rattle.std.specs.Prelude.{ℕ, ℤ, pos, ◌+◌, ◌*◌, Bool, ◌&&◌, List, [], ◌∷◌, ◌++◌, length, map, if◌then◌else◌, nat_lt, slice_index_or}
 use Rattle.std.specs.List.{count_by, list_all}
 use Rattle.std.specs.Ordering.{int_eq}
 use Rattle.fixpoint.specs.declared.plane.Pair.{Pair}

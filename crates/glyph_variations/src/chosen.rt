@@ -45,11 +45,7 @@ pub(crate) fn chosen(alloc: Global, deltas: &[Pair]) -> Result<Seq<u16>, NoMemor
 }
 
 /// The deltas of these points.
-pub(crate) fn picked(
-    alloc: Global,
-    deltas: &[Pair],
-    points: &[u16],
-) -> Result<Seq<Pair>, NoMemory>
+pub(crate) fn picked(alloc: Global, deltas: &[Pair], points: &[u16]) -> Result<Seq<Pair>, NoMemory>
     ensures { IfOk result (λ some. some ≡ picked deltas.now points.now) }
 {
     let mut some = Vec::new(alloc);
@@ -69,5 +65,8 @@ pub(crate) fn explicit_in(outline: usize, points: &[u16]) -> u64
     ensures value { result ≡ explicit_in outline points.now }
     ensures most { result ≤ length points.now }
 {
-    points.iter().filter(|point| usize::from(**point) < outline).count() as u64
+    points
+        .iter()
+        .filter(|point| usize::from(**point) < outline)
+        .count() as u64
 }

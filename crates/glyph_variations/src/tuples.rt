@@ -26,6 +26,16 @@ pub struct GlyphVariations {
     pub points: u64,
 }
 
+// The number of outline points is the default's.
+fn outline_of(masters: &[GlyphTuple]) -> usize
+    ensures { result ≡ point_count masters.now }
+{
+    match masters {
+        [default, ..] => default.deltas.len(),
+        [] => 0,
+    }
+}
+
 // A master's tuple variation, of a glyph with these deltas of all points.
 fn tuple_of(alloc: Global, support: &Support, deltas: &[Pair]) -> Result<Tuple, NoMemory>
     requires { length deltas.now ≤ 4004 }
@@ -40,30 +50,19 @@ fn tuple_of(alloc: Global, support: &Support, deltas: &[Pair]) -> Result<Tuple, 
     })
 }
 
-/// The tuple variations that draw the model of a glyph (OpenType, "gvar"), where the regions are those of its masters in
-/// their order: a tuple for each master behind the default whose deltas aren't all zero, which names every point of the
-/// glyph and the four phantom points behind them. The model has at most 128 masters and 4,000 points.
-pub fn variations(
+// The tuple variations of masters with these regions.
+fn moving(
     alloc: Global,
-    model: &GlyphModel,
-    supports: &Seq<Support>,
+    masters: &[GlyphTuple],
+    supports: &[Support],
 ) -> Result<GlyphVariations, NoMemory>
-    requires tuples { AreGlyphTuples model.now.tuples }
-    ensures tuples { IfOk result (λ found. map variation_of found.tuples ≡ variations_of model.now.lengths (regions_in supports.now) model.now.tuples) }
-    ensures explicit { IfOk result (λ found. found.explicit ≡ explicit_points (point_count model.now.tuples) (map variation_of found.tuples)) }
-    ensures points { IfOk result (λ found. found.points ≡ outline_points (point_count model.now.tuples) (map variation_of found.tuples)) }
-    ensures writable { IfOk result (λ found. (axes : ℕ) → AreWritable axes supports.now → AreTuplesOf axes (point_count model.now.tuples + 4) found.tuples) }
+    requires { AreGlyphTuples masters.now }
+    ensures tuples { IfOk result (λ found. (lengths : List ℕ) → map variation_of found.tuples ≡ variations_of lengths (regions_in supports.now) masters.now) }
+    ensures explicit { IfOk result (λ found. found.explicit ≡ explicit_points (point_count masters.now) (map variation_of found.tuples)) }
+    ensures points { IfOk result (λ found. found.points ≡ outline_points (point_count masters.now) (map variation_of found.tuples)) }
+    ensures writable { IfOk result (λ found. (axes : ℕ) → AreWritable axes supports.now → AreTuplesOf axes (point_count masters.now + 4) found.tuples) }
 {
-    let masters = model.tuples.as_slice();
-    let supports = supports.as_slice();
-    let Some(default) = masters.first() else {
-        return Ok(GlyphVariations {
-            tuples: Seq::new(alloc),
-            explicit: 0,
-            points: 0,
-        });
-    };
-    let outline = default.deltas.len();
+    let outline = outline_of(masters);
     let mut tuples = Vec::new(alloc);
     let mut explicit: u64 = 0;
     for master in 1..masters.len().min(supports.len()) {
@@ -74,10 +73,27 @@ pub fn variations(
             tuples.push(tuple)?;
         }
     }
-    let all = outline as u64 * tuples.len() as u64;
+    let points = outline as u64 * tuples.len() as u64;
     Ok(GlyphVariations {
         tuples: Seq::from_vec(tuples),
         explicit,
-        points: all,
+        points,
     })
+}
+
+/// The tuple variations that draw the model of a glyph (OpenType, "gvar"), where the regions are those of its masters in
+/// their order: a tuple for each master behind the default whose deltas aren't all zero, which names every point of the
+/// glyph and the four phantom points behind them. The model has at most 128 masters and 4,000 points.
+pub fn variations(
+    alloc: Global,
+    model: &GlyphModel,
+    supports: &Seq<Support>,
+) -> Result<GlyphVariations, NoMemory>
+    requires { AreGlyphTuples model.now.tuples }
+    ensures tuples { IfOk result (λ found. map variation_of found.tuples ≡ variations_of model.now.lengths (regions_in supports.now) model.now.tuples) }
+    ensures explicit { IfOk result (λ found. found.explicit ≡ explicit_points (point_count model.now.tuples) (map variation_of found.tuples)) }
+    ensures points { IfOk result (λ found. found.points ≡ outline_points (point_count model.now.tuples) (map variation_of found.tuples)) }
+    ensures writable { IfOk result (λ found. (axes : ℕ) → AreWritable axes supports.now → AreTuplesOf axes (point_count model.now.tuples + 4) found.tuples) }
+{
+    moving(alloc, model.tuples.as_slice(), supports.as_slice())
 }
