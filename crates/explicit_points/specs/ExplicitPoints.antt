@@ -8,10 +8,23 @@ use Rattle.variation_rules.specs.InferredDelta.{still}
 use Rattle.variation_rules.specs.DrawnOutline.{FillsContours}
 use Rattle.iup.specs.Arcs.{IsLeastSet, given_by}
 
--- The default drawing of a glyph, with contours of so many points each, and the deltas of its points, the four phantom
--- points behind the outline's.
+-- a contour has 1 to 1,024 points
+pub record IsCount (n : ℕ) : Type 0 where
+  pub some : 0 < n
+  pub few : n ≤ 1024
+
+-- The outline of a default drawing, with contours of so many points each, and the deltas of its points.
+pub record IsOutline (lengths : List ℕ) (points deltas : List Pair) : Type 0 where
+  pub contours : All IsCount lengths
+  pub whole : sum lengths ≡ length points
+  pub few : length points ≤ 4000
+  pub one_each : length deltas ≡ length points
+  pub points_fit : All AreFWords points
+  pub deltas_fit : All AreFWords deltas
+
+-- The default drawing of a glyph and the deltas of its points, the four phantom points behind the outline's.
 pub record IsGlyph (lengths : List ℕ) (points deltas : List Pair) : Type 0 where
-  pub contours : All (λ n. (0 < n) × (n ≤ 1024)) lengths
+  pub contours : All IsCount lengths
   pub whole : sum lengths ≡ length points
   pub few : length points ≤ 4000
   pub phantom_points : length deltas ≡ length points + 4
@@ -38,7 +51,7 @@ moving_from number (delta ∷ deltas) = if is_still delta then moving_from (numb
 -- The named points of a glyph: the least set of each contour, and the phantom points that move.
 pub record AreExplicit (lengths : List ℕ) (points deltas : List Pair) (named : List ℕ) : Type 0 where
   pub outline : List ℕ
-  pub least : AreLeastSets 0 lengths points deltas outline
+  pub least : AreLeastSets 0 lengths points (take (length points) deltas) outline
   pub all : named ≡ outline ++ moving_from (length points) (drop (length points) deltas)
 
 -- a glyph has one list of explicit points

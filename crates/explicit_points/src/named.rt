@@ -1,7 +1,7 @@
 ghost use Rattle.std.specs.Prelude.{◌≡◌, ◌+◌, ◌<◌, ◌≤◌, ◌++◌, length, map, All, IfOk, OnOk};
 ghost use Rattle.fixpoint.specs.declared.plane.Pair.{Pair};
 ghost use Rattle.variation_rules.specs.PackedPoints.{RisesWithin};
-ghost use Rattle.explicit_points.specs.ExplicitPoints.{IsGlyph, AreExplicit, AreLeastSets, is_still, moving_from};
+ghost use Rattle.explicit_points.specs.ExplicitPoints.{IsGlyph, IsOutline, AreExplicit, AreLeastSets, is_still, moving_from};
 
 use fixpoint::Pair;
 use iup_optimal::least;
@@ -22,16 +22,36 @@ pub fn explicit_points(
     ensures are { IfOk result (AreExplicit lengths.now points.now deltas.now) }
     ensures rise { IfOk result (RisesWithin 0 (length deltas.now)) }
 {
+    let (outline, phantom) = deltas.split_at(points.len());
+    let mut named = least_sets(alloc, lengths, points, outline)?;
+    push_moving(&mut named, points.len(), phantom)?;
+    Ok(Seq::from_vec(named))
+}
+
+/// The least sets of the contours.
+fn least_sets(
+    alloc: Global,
+    lengths: &[u16],
+    points: &[Pair],
+    deltas: &[Pair],
+) -> Result<Vec<u16>, NoMemory>
+    requires { IsOutline lengths.now points.now deltas.now }
+    ensures { IfOk result (λ named. AreLeastSets 0 lengths.now points.now deltas.now named.items) }
+{
     let mut named = Vec::new(alloc);
     let mut start = 0;
+    let mut points = points;
+    let mut deltas = deltas;
     for length in lengths {
-        let end = start + usize::from(*length);
-        let least = least(alloc, &points[start..end], &deltas[start..end])?;
+        let (own, after) = points.split_at(usize::from(*length));
+        let (moves, moves_after) = deltas.split_at(usize::from(*length));
+        let least = least(alloc, own, moves)?;
         push_contour(&mut named, start, least.points.as_slice())?;
-        start = end;
+        start += usize::from(*length);
+        points = after;
+        deltas = moves_after;
     }
-    push_moving(&mut named, points.len(), &deltas[points.len()..])?;
-    Ok(Seq::from_vec(named))
+    Ok(named)
 }
 
 /// Adds the points of a contour that begins at a number.
