@@ -1,5 +1,6 @@
-ghost use Rattle.std.specs.Prelude.{◌≡◌, ◌+◌, ◌<◌, ◌≤◌, ◌++◌, length, map, All, IfOk, OnOk};
+ghost use Rattle.std.specs.Prelude.{◌≡◌, ◌+◌, ◌<◌, ◌≤◌, ◌++◌, ◌↔◌, [], length, map, All, IfOk, OnOk};
 ghost use Rattle.fixpoint.specs.declared.plane.Pair.{Pair};
+ghost use Rattle.variation_rules.specs.InferredDelta.{still};
 ghost use Rattle.variation_rules.specs.PackedPoints.{RisesWithin};
 ghost use Rattle.explicit_points.specs.ExplicitPoints.{IsGlyph, IsOutline, AreExplicit, AreLeastSets, is_still, moving_from};
 
@@ -11,7 +12,8 @@ use std::alloc::Global;
 /// The points that a tuple variation of a glyph names: on each contour the least set of points from which all
 /// its deltas are inferred, and behind them the phantom points that move. `lengths` are the numbers of points
 /// of the contours, `points` the outline's points in the default drawing, at most 4,000, and `deltas` those of
-/// all points, the four phantom points behind the outline's, all of 16 bits. They rise.
+/// all points, the four phantom points behind the outline's, all of 16 bits. They rise; there is none exactly
+/// where nothing moves.
 pub fn explicit_points(
     alloc: Global,
     lengths: &[u16],
@@ -21,6 +23,7 @@ pub fn explicit_points(
     requires { IsGlyph lengths.now points.now deltas.now }
     ensures are { IfOk result (AreExplicit lengths.now points.now deltas.now) }
     ensures rise { IfOk result (RisesWithin 0 (length deltas.now)) }
+    ensures none { IfOk result (λ named. (named ≡ []) ↔ All (λ delta. delta ≡ still) deltas.now) }
 {
     let (outline, phantom) = deltas.split_at(points.len());
     let mut named = least_sets(alloc, lengths, points, outline)?;
