@@ -1,10 +1,10 @@
 -- The least sets of the contours, contour by contour: what holds before each of them.
 use Rattle.std.proofs.Common.{◌≡◌, ℕ, ◌+◌, ◌<◌, ◌≤◌, List, [], ◌∷◌, ◌++◌, length, map, take, drop, get_or, sum, All, refl, sym, ◌∙◌, subst, append_assoc, append-nil, arith}
 use Rattle.std.proofs.lemmas.List.{length-take, length-drop, drop_more, drop_all}
-use Rattle.std.proofs.lemmas.List.Elements.{All-head, All-tail, All-take, All-drop}
+use Rattle.std.proofs.lemmas.List.Elements.{All-nil, All-cons, All-head, All-tail, All-weaker, All-take, All-drop}
 use Rattle.fixpoint.specs.declared.plane.Pair.{Pair}
 use Rattle.variation_rules.specs.FontUnits.{AreFWords}
-use Rattle.iup.specs.Arcs.{IsContour, IsLeastSet}
+use Rattle.iup.specs.Arcs.{RisesFrom, IsContour, IsLeastSet}
 use Rattle.explicit_points.specs.ExplicitPoints.{IsCount, IsOutline, AreLeastSets}
 use Rattle.explicit_points.proofs.ExplicitLemmas.{rest_is_whole}
 
@@ -89,3 +89,15 @@ pub sets_end : (lengths : List ℕ) (points deltas : List Pair) (k start : ℕ) 
 sets_end lengths points deltas k start points_left deltas_left named ended sets =
     let none : AreLeastSets start (drop k lengths) points_left deltas_left [] = subst (λ (ls : List ℕ). AreLeastSets start ls points_left deltas_left []) (sym (drop_all k lengths ended)) refl in
     subst (λ (xs : List ℕ). AreLeastSets 0 lengths points deltas xs) (append-nil named) (sets.completes [] none)
+
+-- the points of a set are below the number of points
+rises_below_all : (low n : ℕ) (set : List ℕ) → RisesFrom low n set → All (λ point. point < n) set
+rises_below_all low n [] rises = All-nil (λ (point : ℕ). point < n)
+rises_below_all low n (x ∷ xs) rises = All-cons (λ (point : ℕ). point < n) x xs rises.1 (rises_below_all (x + 1) n xs rises.2)
+
+pub set_below : (n : ℕ) (points deltas : List Pair) (set : List ℕ) → n ≤ 1024 → IsLeastSet (take n points) deltas set → All (λ point. point < 1024) set
+set_below n points deltas set short least =
+    All-weaker (λ (point : ℕ). point < length (take n points)) (λ (point : ℕ). point < 1024)
+    (λ point below. omega (arith, length-take n points))
+    set
+    (rises_below_all 0 (length (take n points)) set least.is_set)
