@@ -1,0 +1,5 @@
+pub mod ContourSteps
+pub mod ExplicitLemmas
+pub mod LawLemmas
+pub mod MovingLemmas
+pub mod SetsLemmas
