@@ -1,3 +1,4 @@
 pub mod MovingLemmas
 pub mod DrawsLemmas
 pub mod LoopLemmas
+pub mod ModelLemmas

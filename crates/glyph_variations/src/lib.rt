@@ -3,6 +3,8 @@
 
 mod chosen;
 mod laws;
+#[cfg(test)]
+mod tests;
 mod tuples;
 
 pub use laws::models_are_drawn;
