@@ -1,8 +1,7 @@
 -- One more point seen from the first reference of an arc, on both sides; and what is seen is what is inferred.
-use Rattle.std.proofs.Common.{◌≡◌, ◌≢◌, ◌↔◌, Bool, IsTrue, ℕ, ℤ, pos, negsuc, neg_ℤ, ◌+◌, ◌*◌, ◌<◌, ◌-ℤ◌, ◌*ℤ◌, ◌<ℤ◌, ◌≤ℤ◌, refl, sym, ◌∙◌, ap, subst, arith}
-use Rattle.std.proofs.lemmas.Int.{ints, by_lt_z}
+use Rattle.std.proofs.Common.{◌≡◌, ◌≢◌, ◌↔◌, Bool, IsTrue, ℕ, ℤ, pos, negsuc, neg_ℤ, ◌+◌, ◌*◌, ◌-ℤ◌, ◌*ℤ◌, ◌<ℤ◌, ◌≤ℤ◌, refl, sym, ap, subst, arith}
+use Rattle.std.proofs.lemmas.Int.{ints}
 use borrow.Author.Differences.{up, down, same_in}
-use Rattle.variation_rules.specs.InferredDelta.{Between, OnLine}
 use Rattle.variation_rules.specs.declared.inferred.Reference.{Reference}
 use Rattle.variation_rules.proofs.InferredLemmas.{between_turned, between_inside, step_from_line}
 use Rattle.iup.proofs.BetweenLemmas.{line_from_products}
@@ -11,7 +10,7 @@ use Rattle.iup_optimal.specs.declared.side.Nearest.{Nearest}
 use Rattle.iup_optimal.specs.declared.side.Farthest.{Farthest}
 use Rattle.iup_optimal.specs.declared.side.Side.{Side}
 use Rattle.iup_optimal.specs.declared.sight.Sight.{Sight}
-use Rattle.iup_optimal.specs.Sides.{Collinear, Follows, AllowsNear, AllowsFar, Allows, FollowsAt, AllowsAt, BetweenThem, turned, lead_of}
+use Rattle.iup_optimal.specs.Sides.{Follows, Allows, FollowsAt, AllowsAt, BetweenThem, turned, lead_of}
 use Rattle.iup_optimal.proofs.SideLemmas.{Sees, Reaches, times_pos, pos_times}
 
 -- a point at or behind the first reference

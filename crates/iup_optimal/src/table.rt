@@ -47,14 +47,16 @@ impl<'a> Table<'a> {
         self.points.len()
     }
 
-    /// Whether an arc leads from one place of the rolled-out contour to another.
+    /// Whether an arc leads from one place of the first two rounds of the rolled-out contour to another.
     pub fn reaches(&self, from: usize, to: usize) -> bool
+        requires rounds { from < length self.now.points.now + length self.now.points.now }
         requires ahead { from < to }
         requires within { to ≤ from + length self.now.points.now }
         ensures { IsTrue result ↔ Reaches self.now.points.now self.now.deltas.now from to }
     {
         let count = self.points.len();
-        self.arcs[from % count * count + (to - from - 1)]
+        let point = if from < count { from } else { from - count };
+        self.arcs[point * count + (to - from - 1)]
     }
 }
 

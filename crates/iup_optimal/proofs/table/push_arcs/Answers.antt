@@ -1,8 +1,7 @@
-use Rattle.std.proofs.Common.{◌≡◌, ◌↔◌, ◌+◌, ◌*◌, ◌∷◌, [], ◌++◌, Bool, IsTrue, ℕ, List, length, refl, sym, subst, arith}
+use Rattle.std.proofs.Common.{◌≡◌, ◌↔◌, ◌∷◌, [], ◌++◌, Bool, IsTrue, List, length, refl, sym, subst, arith}
 use Rattle.std.proofs.lemmas.List.{length_push}
 use Rattle.variation_rules.specs.declared.inferred.Reference.{Reference}
 use Rattle.variation_rules.specs.FontUnits.{IsReference}
-use Rattle.iup_optimal.specs.declared.sight.Sight.{Sight}
 use Rattle.iup_optimal.specs.Sides.{Admits, BetweenThem, x_of, y_of}
 use Rattle.iup_optimal.specs.Tables.{TellsArcs}
 use Rattle.iup_optimal.proofs.TableLemmas.{seen_push, arc_is_admitted, tells_arc}

@@ -1,8 +1,8 @@
-use Rattle.std.proofs.Common.{FitsSigned, to_z-of_z, ◌≡◌, ◌↔◌, IsTrue, ℤ, pos, subst, arith}
+use Rattle.std.proofs.Common.{FitsSigned, to_z-of_z, ◌≡◌, ◌↔◌, IsTrue, pos, subst, arith}
 use Rattle.std.proofs.lemmas.Int.{ints}
 use Rattle.std.specs.Int.{w64}
 use Rattle.iup_optimal.specs.declared.side.Lead.{Lead}
-use Rattle.iup_optimal.specs.Sides.{AllowsAt, Allows, lead_of, turned}
+use Rattle.iup_optimal.specs.Sides.{AllowsAt, Allows}
 use Rattle.iup_optimal.proofs.SightLemmas.{admits_above, admits_below, admits_level, admits_still}
 use Rattle.iup_optimal.proofs.sight.Sight.admits.Goals as goal
 

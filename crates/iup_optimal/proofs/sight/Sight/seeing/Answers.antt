@@ -1,4 +1,4 @@
-use Rattle.std.proofs.Common.{FitsSigned, to_z-of_z, ◌≡◌, ◌↔◌, ℤ, pos, ◌<ℤ◌, sym, subst, arith}
+use Rattle.std.proofs.Common.{FitsSigned, to_z-of_z, ◌↔◌, pos, ◌<ℤ◌, subst, arith}
 use Rattle.std.proofs.lemmas.Int.{ints}
 use Rattle.std.specs.Int.{w64}
 use Rattle.iup_optimal.specs.declared.side.Lead.{Lead}
