@@ -11,7 +11,7 @@ use Rattle.variation_rules.specs.VariationsTable.{IsVariationsTable, glyph_slice
 use Rattle.gvar_table.specs.declared.tuple.Tuple.{Tuple}
 use Rattle.gvar_table.specs.Layout.{IsWritten}
 use Rattle.gvar_table.specs.Table.{AreGlyphsOf, IsWrittenTable, data_place, ends_from, joined, long, offset_bytes, table_header}
-use Rattle.gvar_table.specs.Tuples.{AreTuplesOf, variation_of}
+use Rattle.gvar_table.specs.Tuples.{variation_of}
 use Rattle.gvar_table.proofs.GlyphLemmas.{means, packs}
 use Rattle.gvar_table.proofs.TableLemmas.{table_block_each, tuples_at, written_at}
 

@@ -18,7 +18,7 @@ const FRONT: u16 = 4;
 /// points, 4 to 4,004 with the four phantom points. There are at most 127 tuples; each has one triple an axis, of
 /// F2DOT14 coordinates from -1 to 1, points below `count` that rise, and for each of them a delta whose numbers
 /// are of 16 bits. Every peak is embedded and every tuple has its own points; packed lists are in maximal runs.
-/// Without tuples there are no bytes, and otherwise at most 4 and 23 for each point and tuple.
+/// Without tuples there are no bytes; else at most 4, and 23 for each point of the glyph in each tuple.
 pub fn glyph_data(
     alloc: Global,
     axes: u32,

@@ -1,5 +1,5 @@
 -- Each turn adds a glyph's data and an offset; in the end no glyph is left.
-use Rattle.std.proofs.Common.{◌≡◌, ◌+◌, ◌++◌, ◌*◌, ◌^◌, ◌<◌, ◌≤◌, length, get_or, ap, subst, sym, ◌∙◌, arith, length-append}
+use Rattle.std.proofs.Common.{◌++◌, ◌^◌, ◌<◌, ◌≤◌, length, get_or, ap, subst, sym, ◌∙◌, arith, length-append}
 use Rattle.gvar_table.specs.Table.{table_header}
 use Rattle.gvar_table.specs.Tuples.{AreTuplesOf}
 use Rattle.gvar_table.proofs.TableLemmas.{next_glyph, one_count_each, table_spelled, tuples_at, wanted_at_first, wanted_here, written_table}
