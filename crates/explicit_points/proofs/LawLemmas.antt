@@ -4,12 +4,11 @@ use Rattle.std.proofs.lemmas.List.{length-take, length-drop, get_or-take, get_or
 use Rattle.std.proofs.lemmas.List.Elements.{All-append, All-take, All-drop}
 use Rattle.std.specs.Option.{unwrap_or}
 use Rattle.fixpoint.specs.declared.plane.Pair.{Pair}
-use Rattle.variation_rules.specs.FontUnits.{AreFWords}
 use Rattle.variation_rules.specs.InferredDelta.{still}
 use Rattle.variation_rules.specs.PackedPoints.{RisesWithin}
 use Rattle.iup.specs.Arcs.{given_by}
 use Rattle.iup.proofs.SetLemmas.{IsIn, in_or_not, given_in, given_out}
-use Rattle.explicit_points.specs.ExplicitPoints.{IsGlyph, IsOutline, AreExplicit, ExplicitOnce, ExplicitFills, ExplicitPhantoms, moving_from}
+use Rattle.explicit_points.specs.ExplicitPoints.{IsGlyph, AreLeastSets, AreExplicit, ExplicitOnce, ExplicitFills, ExplicitPhantoms, moving_from}
 use Rattle.explicit_points.proofs.ExplicitLemmas.{fills_from}
 use Rattle.explicit_points.proofs.MovingLemmas.{in_rising, moving_rises, moving_all, still_of_none, none_of_still}
 use Rattle.explicit_points.proofs.SetsLemmas.{sets_once, sets_rise, rises_join, nil_parts, still_of_no_set, no_set_of_still}
@@ -114,15 +113,10 @@ explicit_none lengths points deltas named glyph are =
 
 -- ---- the outline and the phantom points apart
 
--- the outline of a glyph with the deltas of its own points
-pub outline_of_glyph : (lengths : List ℕ) (points deltas : List Pair) → IsGlyph lengths points deltas → IsOutline lengths points (take (length points) deltas)
-outline_of_glyph lengths points deltas glyph =
-    let size : length deltas ≡ length points + 4 = glyph.phantom_points in
-    record {
-      contours = glyph.contours;
-      whole = glyph.whole;
-      few = glyph.few;
-      one_each = omega (arith, length-take (length points) deltas);
-      points_fit = glyph.points_fit;
-      deltas_fit = All-take AreFWords (length points) deltas glyph.deltas_fit;
-    }
+-- the least sets of the outline, and behind them the phantom points that move
+pub explicit_of : (lengths : List ℕ) (points deltas own behind : List Pair) (outline named : List ℕ) → own ≡ take (length points) deltas → behind ≡ drop (length points) deltas → AreLeastSets 0 lengths points own outline → named ≡ outline ++ moving_from (length points) behind → AreExplicit lengths points deltas named
+explicit_of lengths points deltas own behind outline named front back least all = record {
+  outline = outline;
+  least = subst (λ (ds : List Pair). AreLeastSets 0 lengths points ds outline) front least;
+  all = all ∙ ap (λ (ds : List Pair). outline ++ moving_from (length points) ds) back;
+}
