@@ -26,8 +26,8 @@ pub fn arc_holds(points: &[Pair], deltas: &[Pair], i: usize, k: usize) -> bool
     true
 }
 
-/// Whether the delta at one place of the rolled-out contour is inferred from those at two others.
-pub fn is_inferred(points: &[Pair], deltas: &[Pair], from: usize, place: usize, to: usize) -> bool
+// Whether the delta at one place of the rolled-out contour is inferred from those at two others.
+fn is_inferred(points: &[Pair], deltas: &[Pair], from: usize, place: usize, to: usize) -> bool
     requires contour { IsContour points.now deltas.now }
     ensures { IsTrue result ↔ Inferred points.now deltas.now from place to }
 {
@@ -44,7 +44,8 @@ pub fn is_inferred(points: &[Pair], deltas: &[Pair], from: usize, place: usize, 
         )
 }
 
-/// The point at a place of the rolled-out contour, as a reference in x.
+/// The point at a place of a contour and its delta, in x and in font units. The place is any number,
+/// counted on round the contour; `points` and `deltas` are as for [`arc_holds`].
 pub fn horizontal(points: &[Pair], deltas: &[Pair], place: usize) -> Reference
     requires contour { IsContour points.now deltas.now }
     ensures value { result ≡ record { at = (around points.now place).x; delta = (around deltas.now place).x } }
@@ -57,7 +58,7 @@ pub fn horizontal(points: &[Pair], deltas: &[Pair], place: usize) -> Reference
     }
 }
 
-/// The point at a place of the rolled-out contour, as a reference in y.
+/// The same in y.
 pub fn vertical(points: &[Pair], deltas: &[Pair], place: usize) -> Reference
     requires contour { IsContour points.now deltas.now }
     ensures value { result ≡ record { at = (around points.now place).y; delta = (around deltas.now place).y } }

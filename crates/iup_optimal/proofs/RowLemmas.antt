@@ -135,6 +135,34 @@ back_taken E end row a back k so_far inside edge fewer found =
     })
     (λ _. omega arith)
 
+-- a way ahead has a step
+at_least_one : (E : ℕ → ℕ → Type 0) (m x y : ℕ) → x < y → Path E x y m → 0 < m
+at_least_one E zero x y ahead path = absurd (omega (arith, path))
+at_least_one E (suc m) x y ahead path = omega arith
+
+-- so one through a place after the start has two at least
+pub fewest_enough : (E : ℕ → ℕ → Type 0) (s : ℕ) (row : List ℕ) (seen to k : ℕ) → IsRowTo E s row → to ≤ length row → 0 < seen → k ≤ 2 → FewestTo E s row seen to k → FewestTo E s row to to k
+fewest_enough E s row seen to k so_far inside some short found = record {
+  leads = found.leads;
+  fewest = λ a below edge. ⊎_elim
+      (λ (before : a < seen). found.fewest a before edge)
+      (λ (not_before : seen ≤ a).
+      let one = at_least_one E (get_or row a 0) s (s + a) (omega arith) (so_far.each a (omega arith)).leads in
+      omega arith)
+      (cases_lt a seen);
+}
+
+pub back_enough : (E : ℕ → ℕ → Type 0) (end : ℕ) (row : List ℕ) (seen back k : ℕ) → IsRowBack E end row → back ≤ length row → back ≤ end → 0 < seen → k ≤ 2 → FewestBack E end row seen back k → FewestBack E end row back back k
+back_enough E end row seen back k so_far inside low some short found = record {
+  leads = found.leads;
+  fewest = λ a below edge. ⊎_elim
+      (λ (before : a < seen). found.fewest a before edge)
+      (λ (not_before : seen ≤ a).
+      let one = at_least_one E (get_or row a 0) (end - a) end (omega arith) (so_far.each a (omega arith)).leads in
+      omega arith)
+      (cases_lt a seen);
+}
+
 -- where all places before are looked at, it is the least
 pub least_from_fewest : (E : ℕ → ℕ → Type 0) (n s : ℕ) (row : List ℕ) (seen to k : ℕ) → IsCyclic E n → IsRowTo E s row → length row ≡ to → 0 < to → to ≤ seen → FewestTo E s row seen to k → IsLeastWay E s (s + to) k
 least_from_fewest E n s row seen to k cyclic so_far size some all found = record {

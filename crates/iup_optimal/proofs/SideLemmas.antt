@@ -5,7 +5,7 @@ use Rattle.std.proofs.lemmas.Int.{ints, by_lt_z}
 use Rattle.std.proofs.Math.IntN.{*ℤ_comm}
 use Rattle.std.proofs.Math.Nat.{eq_of_mul-eq-mul_right}
 use borrow.Author.Differences.{up, down, same_in}
-use Rattle.iup_optimal.specs.declared.side.Lead.{Lead}
+use Rattle.iup_optimal.specs.declared.side.Relative.{Relative}
 use Rattle.iup_optimal.specs.declared.side.Nearest.{Nearest}
 use Rattle.iup_optimal.specs.declared.side.Farthest.{Farthest}
 use Rattle.iup_optimal.specs.Sides.{Collinear, IsNearest, AllowsNear, IsFarthest, AllowsFar}
@@ -29,7 +29,7 @@ line_of p q r a b c some first second =
     same_in (p *ℤ pos b) (pos a *ℤ q) (omega (arith, times_pos p b, pos_times q a))
 
 -- the same for points on the side of positive ways
-pub collinear_through : (point other third : Lead) → pos 0 <ℤ point.way → pos 0 <ℤ other.way → pos 0 <ℤ third.way → Collinear point third → Collinear other third → Collinear point other
+pub collinear_through : (point other third : Relative) → pos 0 <ℤ point.way → pos 0 <ℤ other.way → pos 0 <ℤ third.way → Collinear point third → Collinear other third → Collinear point other
 collinear_through point other third = through point.step other.step third.step point.way other.way third.way
   where
     through : (p q r a b c : ℤ) → pos 0 <ℤ a → pos 0 <ℤ b → pos 0 <ℤ c → p *ℤ c ≡ a *ℤ r → q *ℤ c ≡ b *ℤ r → p *ℤ b ≡ a *ℤ q
@@ -38,16 +38,16 @@ collinear_through point other third = through point.step other.step third.step p
     through p q r (pos a) (negsuc b) c first second third one two = absurd (omega (arith, ints))
     through p q r (pos a) (pos b) (negsuc c) first second third one two = absurd (omega (arith, ints))
 
-pub collinear_turned : (point other : Lead) → Collinear point other → Collinear other point
+pub collinear_turned : (point other : Relative) → Collinear point other → Collinear other point
 collinear_turned point other line =
     *ℤ_comm other.step point.way ∙ (sym line ∙ *ℤ_comm point.step other.way)
 
 -- what a nearest point that allows an end comes to
-abbrev pub Sees : Nearest → Nearest → Lead → Lead → Type 0
-Sees new old point end = AllowsNear new end ↔ (AllowsNear old end × (point.way <ℤ end.way → Collinear point end))
+abbrev pub TakesNear : Nearest → Nearest → Relative → Relative → Type 0
+TakesNear new old point end = AllowsNear new end ↔ (AllowsNear old end × (point.way <ℤ end.way → Collinear point end))
 
 -- a nearer point on the line of the nearest
-pub nearer_on_line : (nearest : Nearest) (point end : Lead) → IsNearest nearest → pos 0 <ℤ point.way → pos 0 <ℤ end.way → Collinear point nearest.at → point.way <ℤ nearest.at.way → Sees (record { at = point; off = nearest.off }) nearest point end
+pub nearer_on_line : (nearest : Nearest) (point end : Relative) → IsNearest nearest → pos 0 <ℤ point.way → pos 0 <ℤ end.way → Collinear point nearest.at → point.way <ℤ nearest.at.way → TakesNear (record { at = point; off = nearest.off }) nearest point end
 nearer_on_line nearest point end is ahead some line nearer =
     let beyond = is.beyond in
     let first = is.some in (
@@ -72,7 +72,7 @@ nearer_on_line nearest point end is ahead some line nearer =
     )
 
 -- a nearer point that isn't
-pub nearer_off_line : (nearest : Nearest) (point end : Lead) → IsNearest nearest → pos 0 <ℤ point.way → pos 0 <ℤ end.way → (Collinear point nearest.at → ⊥) → point.way <ℤ nearest.at.way → Sees (record { at = point; off = nearest.at.way }) nearest point end
+pub nearer_off_line : (nearest : Nearest) (point end : Relative) → IsNearest nearest → pos 0 <ℤ point.way → pos 0 <ℤ end.way → (Collinear point nearest.at → ⊥) → point.way <ℤ nearest.at.way → TakesNear (record { at = point; off = nearest.at.way }) nearest point end
 nearer_off_line nearest point end is ahead some off nearer = (
   λ allowed. ⊎_elim
       (λ (low : end.way ≤ℤ point.way). (inl (omega (arith, ints)), λ (less : point.way <ℤ end.way). absurd (omega (arith, ints))))
@@ -90,7 +90,7 @@ nearer_off_line nearest point end is ahead some off nearer = (
 )
 
 -- a farther point on the line
-pub farther_on_line : (nearest : Nearest) (point end : Lead) → IsNearest nearest → pos 0 <ℤ point.way → pos 0 <ℤ end.way → Collinear point nearest.at → nearest.at.way ≤ℤ point.way → Sees nearest nearest point end
+pub farther_on_line : (nearest : Nearest) (point end : Relative) → IsNearest nearest → pos 0 <ℤ point.way → pos 0 <ℤ end.way → Collinear point nearest.at → nearest.at.way ≤ℤ point.way → TakesNear nearest nearest point end
 farther_on_line nearest point end is ahead some line farther = (
   λ allowed. (
     allowed,
@@ -103,7 +103,7 @@ farther_on_line nearest point end is ahead some line farther = (
 )
 
 -- a farther point that isn't, nearer than any such so far
-pub farther_off_line : (nearest : Nearest) (point end : Lead) → IsNearest nearest → pos 0 <ℤ point.way → pos 0 <ℤ end.way → (Collinear point nearest.at → ⊥) → nearest.at.way ≤ℤ point.way → point.way <ℤ nearest.off → Sees (record { at = nearest.at; off = point.way }) nearest point end
+pub farther_off_line : (nearest : Nearest) (point end : Relative) → IsNearest nearest → pos 0 <ℤ point.way → pos 0 <ℤ end.way → (Collinear point nearest.at → ⊥) → nearest.at.way ≤ℤ point.way → point.way <ℤ nearest.off → TakesNear (record { at = nearest.at; off = point.way }) nearest point end
 farther_off_line nearest point end is ahead some off farther before = (
   λ allowed. ⊎_elim
       (λ (low : end.way ≤ℤ nearest.at.way). (inl low, λ (less : point.way <ℤ end.way). absurd (omega (arith, ints))))
@@ -121,7 +121,7 @@ farther_off_line nearest point end is ahead some off farther before = (
 )
 
 -- and one that is farther than such a one
-pub beyond_off_line : (nearest : Nearest) (point end : Lead) → nearest.at.way ≤ℤ point.way → nearest.off ≤ℤ point.way → Sees nearest nearest point end
+pub beyond_off_line : (nearest : Nearest) (point end : Relative) → nearest.at.way ≤ℤ point.way → nearest.off ≤ℤ point.way → TakesNear nearest nearest point end
 beyond_off_line nearest point end farther after = (
   λ allowed. (
     allowed,
@@ -134,11 +134,11 @@ beyond_off_line nearest point end farther after = (
 )
 
 -- what a farthest point that allows an end comes to
-abbrev pub Reaches : Farthest → Farthest → Lead → Lead → Type 0
-Reaches new old point end = AllowsFar new end ↔ (AllowsFar old end × (end.way ≤ℤ point.way → point.step ≡ end.step))
+abbrev pub TakesFar : Farthest → Farthest → Relative → Relative → Type 0
+TakesFar new old point end = AllowsFar new end ↔ (AllowsFar old end × (end.way ≤ℤ point.way → point.step ≡ end.step))
 
 -- a farther point with the same step
-pub beyond_same : (farthest : Farthest) (point end : Lead) → IsFarthest farthest → point.step ≡ farthest.at.step → farthest.at.way <ℤ point.way → Reaches (record { at = point; torn = farthest.torn }) farthest point end
+pub beyond_same : (farthest : Farthest) (point end : Relative) → IsFarthest farthest → point.step ≡ farthest.at.step → farthest.at.way <ℤ point.way → TakesFar (record { at = point; torn = farthest.torn }) farthest point end
 beyond_same farthest point end is same farther =
     let within = is.within in (
       λ allowed. ⊎_elim
@@ -157,7 +157,7 @@ beyond_same farthest point end is same farther =
     )
 
 -- one that isn't farther
-pub within_same : (farthest : Farthest) (point end : Lead) → point.step ≡ farthest.at.step → point.way ≤ℤ farthest.at.way → Reaches farthest farthest point end
+pub within_same : (farthest : Farthest) (point end : Relative) → point.step ≡ farthest.at.step → point.way ≤ℤ farthest.at.way → TakesFar farthest farthest point end
 within_same farthest point end same nearer = (
   λ allowed. (
     allowed,
@@ -170,7 +170,7 @@ within_same farthest point end same nearer = (
 )
 
 -- a farther point with another step
-pub beyond_other : (farthest : Farthest) (point end : Lead) → (point.step ≡ farthest.at.step → ⊥) → farthest.at.way <ℤ point.way → Reaches (record { at = point; torn = farthest.at.way }) farthest point end
+pub beyond_other : (farthest : Farthest) (point end : Relative) → (point.step ≡ farthest.at.step → ⊥) → farthest.at.way <ℤ point.way → TakesFar (record { at = point; torn = farthest.at.way }) farthest point end
 beyond_other farthest point end other farther = (
   λ allowed. ⊎_elim
       (λ (past : point.way <ℤ end.way). (inl (omega (arith, ints)), λ (low : end.way ≤ℤ point.way). absurd (omega (arith, ints))))
@@ -188,7 +188,7 @@ beyond_other farthest point end other farther = (
 )
 
 -- one that isn't farther, beyond any with another step so far
-pub within_other : (farthest : Farthest) (point end : Lead) → (point.step ≡ farthest.at.step → ⊥) → point.way ≤ℤ farthest.at.way → farthest.torn <ℤ point.way → Reaches (record { at = farthest.at; torn = point.way }) farthest point end
+pub within_other : (farthest : Farthest) (point end : Relative) → (point.step ≡ farthest.at.step → ⊥) → point.way ≤ℤ farthest.at.way → farthest.torn <ℤ point.way → TakesFar (record { at = farthest.at; torn = point.way }) farthest point end
 within_other farthest point end other nearer after = (
   λ allowed. ⊎_elim
       (λ (past : farthest.at.way <ℤ end.way). (inl past, λ (low : end.way ≤ℤ point.way). absurd (omega (arith, ints))))
@@ -206,7 +206,7 @@ within_other farthest point end other nearer after = (
 )
 
 -- and one before such a one
-pub before_other : (farthest : Farthest) (point end : Lead) → point.way ≤ℤ farthest.at.way → point.way ≤ℤ farthest.torn → Reaches farthest farthest point end
+pub before_other : (farthest : Farthest) (point end : Relative) → point.way ≤ℤ farthest.at.way → point.way ≤ℤ farthest.torn → TakesFar farthest farthest point end
 before_other farthest point end nearer before = (
   λ allowed. (
     allowed,

@@ -5,16 +5,16 @@ use borrow.Author.Differences.{up, down, same_in}
 use Rattle.variation_rules.specs.declared.inferred.Reference.{Reference}
 use Rattle.variation_rules.proofs.InferredLemmas.{between_turned, between_inside, step_from_line}
 use Rattle.iup.proofs.BetweenLemmas.{line_from_products}
-use Rattle.iup_optimal.specs.declared.side.Lead.{Lead}
+use Rattle.iup_optimal.specs.declared.side.Relative.{Relative}
 use Rattle.iup_optimal.specs.declared.side.Nearest.{Nearest}
 use Rattle.iup_optimal.specs.declared.side.Farthest.{Farthest}
 use Rattle.iup_optimal.specs.declared.side.Side.{Side}
 use Rattle.iup_optimal.specs.declared.sight.Sight.{Sight}
-use Rattle.iup_optimal.specs.Sides.{Follows, Allows, FollowsAt, AllowsAt, BetweenThem, turned, lead_of}
-use Rattle.iup_optimal.proofs.SideLemmas.{Sees, Reaches, times_pos, pos_times}
+use Rattle.iup_optimal.specs.Sides.{Follows, Allows, FollowsAt, AllowsAt, BetweenThem, turned, relative_of}
+use Rattle.iup_optimal.proofs.SideLemmas.{TakesNear, TakesFar, times_pos, pos_times}
 
 -- a point at or behind the first reference
-pub side_behind : (side : Side) (level : Bool) (point end : Lead) → point.way ≤ℤ pos 0 → pos 0 <ℤ end.way → (IsTrue level ↔ (IsTrue side.level_behind × (point.step ≡ pos 0))) → Allows (record { level_behind = level; nearest = side.nearest; farthest = side.farthest }) end ↔ (Allows side end × Follows end point)
+pub side_behind : (side : Side) (level : Bool) (point end : Relative) → point.way ≤ℤ pos 0 → pos 0 <ℤ end.way → (IsTrue level ↔ (IsTrue side.level_behind × (point.step ≡ pos 0))) → Allows (record { level_behind = level; nearest = side.nearest; farthest = side.farthest }) end ↔ (Allows side end × Follows end point)
 side_behind side level point end behind some is = (
   λ allowed. (
     record { behind = (is.0 allowed.behind).0; near = allowed.near; far = allowed.far },
@@ -28,7 +28,7 @@ side_behind side level point end behind some is = (
 )
 
 -- a point ahead of it
-pub side_ahead : (side : Side) (nearest : Nearest) (farthest : Farthest) (point end : Lead) → pos 0 <ℤ point.way → Sees nearest side.nearest point end → Reaches farthest side.farthest point end → Allows (record { level_behind = side.level_behind; nearest = nearest; farthest = farthest }) end ↔ (Allows side end × Follows end point)
+pub side_ahead : (side : Side) (nearest : Nearest) (farthest : Farthest) (point end : Relative) → pos 0 <ℤ point.way → TakesNear nearest side.nearest point end → TakesFar farthest side.farthest point end → Allows (record { level_behind = side.level_behind; nearest = nearest; farthest = farthest }) end ↔ (Allows side end × Follows end point)
 side_ahead side nearest farthest point end ahead sees reaches = (
   λ allowed. (
     record { behind = allowed.behind; near = (sees.0 allowed.near).0; far = (reaches.0 allowed.far).0 },
@@ -46,7 +46,7 @@ side_ahead side nearest farthest point end ahead sees reaches = (
 )
 
 -- a point on either side
-pub sight_seeing : (old new : Sight) (point end : Lead) (delta : ℤ) → ((e : Lead) → pos 0 <ℤ e.way → Allows new.above e ↔ (Allows old.above e × Follows e point)) → ((e : Lead) → pos 0 <ℤ e.way → Allows new.below e ↔ (Allows old.below e × Follows e (turned point))) → (IsTrue new.level ↔ (IsTrue old.level × (point.step ≡ pos 0))) → (IsTrue new.still ↔ (IsTrue old.still × (delta ≡ pos 0))) → AllowsAt new end ↔ (AllowsAt old end × FollowsAt end point delta)
+pub sight_seeing : (old new : Sight) (point end : Relative) (delta : ℤ) → ((e : Relative) → pos 0 <ℤ e.way → Allows new.above e ↔ (Allows old.above e × Follows e point)) → ((e : Relative) → pos 0 <ℤ e.way → Allows new.below e ↔ (Allows old.below e × Follows e (turned point))) → (IsTrue new.level ↔ (IsTrue old.level × (point.step ≡ pos 0))) → (IsTrue new.still ↔ (IsTrue old.still × (delta ≡ pos 0))) → AllowsAt new end ↔ (AllowsAt old end × FollowsAt end point delta)
 sight_seeing old new point end delta above below level still = (
   λ allowed. (
     record {
@@ -71,7 +71,7 @@ sight_seeing old new point end delta above below level still = (
 )
 
 -- the answers at an end, by the side on which it lies
-pub admits_above : (sight : Sight) (end : Lead) (test : Bool) → pos 0 <ℤ end.way → (IsTrue test ↔ Allows sight.above end) → IsTrue test ↔ AllowsAt sight end
+pub admits_above : (sight : Sight) (end : Relative) (test : Bool) → pos 0 <ℤ end.way → (IsTrue test ↔ Allows sight.above end) → IsTrue test ↔ AllowsAt sight end
 admits_above sight end test more is = (
   λ holds. record {
     above = λ _. is.0 holds;
@@ -82,7 +82,7 @@ admits_above sight end test more is = (
   λ allowed. is.1 (allowed.above more),
 )
 
-pub admits_below : (sight : Sight) (end : Lead) (test : Bool) → end.way <ℤ pos 0 → (IsTrue test ↔ Allows sight.below (turned end)) → IsTrue test ↔ AllowsAt sight end
+pub admits_below : (sight : Sight) (end : Relative) (test : Bool) → end.way <ℤ pos 0 → (IsTrue test ↔ Allows sight.below (turned end)) → IsTrue test ↔ AllowsAt sight end
 admits_below sight end test less is = (
   λ holds. record {
     above = λ more. absurd (omega (arith, ints));
@@ -93,7 +93,7 @@ admits_below sight end test less is = (
   λ allowed. is.1 (allowed.below less),
 )
 
-pub admits_level : (sight : Sight) (end : Lead) → end.way ≡ pos 0 → end.step ≡ pos 0 → IsTrue sight.level ↔ AllowsAt sight end
+pub admits_level : (sight : Sight) (end : Relative) → end.way ≡ pos 0 → end.step ≡ pos 0 → IsTrue sight.level ↔ AllowsAt sight end
 admits_level sight end here same = (
   λ holds. record {
     above = λ more. absurd (omega (arith, ints));
@@ -104,7 +104,7 @@ admits_level sight end here same = (
   λ allowed. allowed.level here same,
 )
 
-pub admits_still : (sight : Sight) (end : Lead) → end.way ≡ pos 0 → end.step ≢ pos 0 → IsTrue sight.still ↔ AllowsAt sight end
+pub admits_still : (sight : Sight) (end : Relative) → end.way ≡ pos 0 → end.step ≢ pos 0 → IsTrue sight.still ↔ AllowsAt sight end
 admits_still sight end here other = (
   λ holds. record {
     above = λ more. absurd (omega (arith, ints));
@@ -164,7 +164,7 @@ step_rising c1 d1 c2 d2 c d left right step =
     (subst (λ z. (d -ℤ d2) *ℤ pos (b + a) ≡ z *ℤ (d1 -ℤ d2)) (sym near) (step_between d2 d1 d b a plain))
 
 -- a point is inferred from two references exactly where it follows from them as it is seen from the first
-pub follows_from_between : (first second point : Reference) → BetweenThem first second point → FollowsAt (lead_of first second) (lead_of first point) point.delta
+pub follows_from_between : (first second point : Reference) → BetweenThem first second point → FollowsAt (relative_of first second) (relative_of first point) point.delta
 follows_from_between first second point between = record {
   above = λ more. record {
     behind = λ low. let same = between.below_first (omega (arith, ints)) (omega (arith, ints)) in omega (arith, ints);
@@ -185,7 +185,7 @@ follows_from_between first second point between = record {
   still = λ here other. between.differ (omega (arith, ints)) (λ equal. other (omega (arith, ints)));
 }
 
-pub between_from_follows : (first second point : Reference) → FollowsAt (lead_of first second) (lead_of first point) point.delta → BetweenThem first second point
+pub between_from_follows : (first second point : Reference) → FollowsAt (relative_of first second) (relative_of first point) point.delta → BetweenThem first second point
 between_from_follows first second point follows = record {
   agree = λ same level. let equal = follows.level (omega (arith, ints)) (omega (arith, ints)) in omega (arith, ints);
   differ = λ same apart. follows.still (omega (arith, ints)) (λ equal. apart (omega (arith, ints)));

@@ -43,6 +43,10 @@ fn fewest_to(table: &Table<'_>, start: usize, row: &[u32], to: usize) -> u32
 {
     let mut fewest = row[to - 1] + 1;
     for from in 0..to {
+        // A way through a place after the start has two arcs at least.
+        if fewest <= 2 && 0 < from {
+            return fewest;
+        }
         let through = row[from] + 1;
         if through < fewest && table.reaches(start + from, start + to) {
             fewest = through;
@@ -81,6 +85,9 @@ fn fewest_back(table: &Table<'_>, end: usize, row: &[u32], back: usize) -> u32
 {
     let mut fewest = row[back - 1] + 1;
     for nearer in 0..back {
+        if fewest <= 2 && 0 < nearer {
+            return fewest;
+        }
         let through = row[nearer] + 1;
         if through < fewest && table.reaches(end - back, end - nearer) {
             fewest = through;

@@ -1,13 +1,13 @@
 ghost use Rattle.std.specs.Prelude.{◌≡◌, ℤ, pos, ◌<ℤ◌, ◌≤ℤ◌, ◌-ℤ◌, ◌*ℤ◌, ◌↔◌, IsTrue};
 ghost use Rattle.variation_rules.specs.FontUnits.{IsReference};
-ghost use Rattle.iup_optimal.specs.Sides.{Collinear, IsSpan, IsLead, Follows, IsNearest, AllowsNear, IsFarthest, AllowsFar, IsSide, Allows, turned};
-ghost use Rattle.iup_optimal.specs.declared.side.Lead.{Lead};
+ghost use Rattle.iup_optimal.specs.Sides.{Collinear, IsSpan, IsRelative, Follows, IsNearest, AllowsNear, IsFarthest, AllowsFar, IsSide, Allows, turned};
+ghost use Rattle.iup_optimal.specs.declared.side.Relative.{Relative};
 
 use variation_rules::Reference;
 
 /// A point of a contour seen from the first reference of an arc, in one coordinate.
 #[derive(Clone, Copy)]
-pub struct Lead {
+pub struct Relative {
     /// How far the point lies from the reference.
     pub way: i64,
     /// How much more it moves.
@@ -18,7 +18,7 @@ pub struct Lead {
 #[derive(Clone, Copy)]
 pub struct Nearest {
     /// The nearest point.
-    at: Lead,
+    at: Relative,
     /// The least way of a point that isn't on its line.
     off: i64,
 }
@@ -27,7 +27,7 @@ pub struct Nearest {
 #[derive(Clone, Copy)]
 pub struct Farthest {
     /// The farthest point.
-    at: Lead,
+    at: Relative,
     /// The greatest way of a point that moves otherwise.
     torn: i64,
 }
@@ -44,36 +44,36 @@ pub struct Side {
 // No two points lie farther from one another, so it stands for the nearest of none.
 const NONE: i64 = 65536;
 
-impl Lead {
+impl Relative {
     /// The point as it is seen from the reference.
-    pub fn between(first: Reference, point: Reference) -> Lead
+    pub fn between(first: Reference, point: Reference) -> Relative
         requires first { IsReference first }
         requires point { IsReference point }
         ensures value { result ≡ record { way = point.at -ℤ first.at; step = point.delta -ℤ first.delta } }
-        ensures within { IsLead result }
+        ensures within { IsRelative result }
     {
-        Lead {
+        Relative {
             way: point.at - first.at,
             step: point.delta - first.delta,
         }
     }
 
     /// The same way on the other side.
-    pub fn turned(self) -> Lead
-        requires { IsLead self }
+    pub fn turned(self) -> Relative
+        requires { IsRelative self }
         ensures value { result ≡ turned self }
-        ensures within { IsLead result }
+        ensures within { IsRelative result }
     {
-        Lead {
+        Relative {
             way: -self.way,
             step: self.step,
         }
     }
 
     // Whether both lie on one line through the reference.
-    fn is_on_line(self, other: Lead) -> bool
-        requires own { IsLead self }
-        requires other { IsLead other }
+    fn is_on_line(self, other: Relative) -> bool
+        requires own { IsRelative self }
+        requires other { IsRelative other }
         ensures { IsTrue result ↔ Collinear self other }
     {
         is_same(times(self.step, other.way), times(self.way, other.step))
@@ -104,12 +104,12 @@ pub fn both(first: bool, second: bool) -> bool
 
 impl Nearest {
     // One more point of the side is seen.
-    fn seeing(self, point: Lead) -> Nearest
+    fn seeing(self, point: Relative) -> Nearest
         requires nearest { IsNearest self }
-        requires point { IsLead point }
+        requires point { IsRelative point }
         requires ahead { pos 0 <ℤ point.way }
         ensures nearest { IsNearest result }
-        ensures allows { (end : Lead) → pos 0 <ℤ end.way → (AllowsNear result end ↔ (AllowsNear self end × (point.way <ℤ end.way → Collinear point end))) }
+        ensures allows { (end : Relative) → pos 0 <ℤ end.way → (AllowsNear result end ↔ (AllowsNear self end × (point.way <ℤ end.way → Collinear point end))) }
     {
         if point.is_on_line(self.at) {
             if point.way < self.at.way {
@@ -135,9 +135,9 @@ impl Nearest {
         }
     }
 
-    fn allows(self, end: Lead) -> bool
+    fn allows(self, end: Relative) -> bool
         requires nearest { IsNearest self }
-        requires end { IsLead end }
+        requires end { IsRelative end }
         ensures { IsTrue result ↔ AllowsNear self end }
     {
         if end.way <= self.at.way {
@@ -152,10 +152,10 @@ impl Nearest {
 
 impl Farthest {
     // One more point of the side is seen.
-    fn seeing(self, point: Lead) -> Farthest
+    fn seeing(self, point: Relative) -> Farthest
         requires { IsFarthest self }
         ensures farthest { IsFarthest result }
-        ensures allows { (end : Lead) → (AllowsFar result end ↔ (AllowsFar self end × (end.way ≤ℤ point.way → point.step ≡ end.step))) }
+        ensures allows { (end : Relative) → (AllowsFar result end ↔ (AllowsFar self end × (end.way ≤ℤ point.way → point.step ≡ end.step))) }
     {
         if is_same(point.step, self.at.step) {
             if self.at.way < point.way {
@@ -181,7 +181,7 @@ impl Farthest {
         }
     }
 
-    fn allows(self, end: Lead) -> bool
+    fn allows(self, end: Relative) -> bool
         ensures { IsTrue result ↔ AllowsFar self end }
     {
         if self.at.way < end.way {
@@ -198,27 +198,27 @@ impl Side {
     /// No point is seen.
     pub fn new() -> Side
         ensures side { IsSide result }
-        ensures allows { (end : Lead) → pos 0 <ℤ end.way → IsLead end → Allows result end }
+        ensures allows { (end : Relative) → pos 0 <ℤ end.way → IsRelative end → Allows result end }
     {
         Side {
             level_behind: true,
             nearest: Nearest {
-                at: Lead { way: NONE, step: 0 },
+                at: Relative { way: NONE, step: 0 },
                 off: NONE,
             },
             farthest: Farthest {
-                at: Lead { way: 0, step: 0 },
+                at: Relative { way: 0, step: 0 },
                 torn: 0,
             },
         }
     }
 
     /// One more point is seen.
-    pub fn seeing(self, point: Lead) -> Side
+    pub fn seeing(self, point: Relative) -> Side
         requires side { IsSide self }
-        requires point { IsLead point }
+        requires point { IsRelative point }
         ensures side { IsSide result }
-        ensures allows { (end : Lead) → pos 0 <ℤ end.way → (Allows result end ↔ (Allows self end × Follows end point)) }
+        ensures allows { (end : Relative) → pos 0 <ℤ end.way → (Allows result end ↔ (Allows self end × Follows end point)) }
     {
         if point.way <= 0 {
             Side {
@@ -236,9 +236,9 @@ impl Side {
     }
 
     /// Whether all points seen follow from the first reference and this second one.
-    pub fn allows(self, end: Lead) -> bool
+    pub fn allows(self, end: Relative) -> bool
         requires side { IsSide self }
-        requires end { IsLead end }
+        requires end { IsRelative end }
         ensures { IsTrue result ↔ Allows self end }
     {
         self.level_behind && self.nearest.allows(end) && self.farthest.allows(end)

@@ -3,7 +3,7 @@ ghost use Rattle.variation_rules.specs.FontUnits.{IsReference};
 ghost use Rattle.iup_optimal.specs.Sides.{IsSight, Admits, BetweenThem};
 ghost use Rattle.variation_rules.specs.declared.inferred.Reference.{Reference};
 
-use crate::side::{Lead, Side, both, is_same};
+use crate::side::{Relative, Side, both, is_same};
 use variation_rules::Reference;
 
 /// What the points seen so far after the first reference of an arc leave open for the second one, in one
@@ -44,13 +44,13 @@ impl Sight {
         ensures first { result.first ≡ self.first }
         ensures admits { (end : Reference) → (Admits result end ↔ (Admits self end × BetweenThem self.first end point)) }
     {
-        let lead = Lead::between(self.first, point);
+        let relative = Relative::between(self.first, point);
         Sight {
             first: self.first,
-            level: both(self.level, is_same(lead.step, 0)),
+            level: both(self.level, is_same(relative.step, 0)),
             still: both(self.still, is_same(point.delta, 0)),
-            above: self.above.seeing(lead),
-            below: self.below.seeing(lead.turned()),
+            above: self.above.seeing(relative),
+            below: self.below.seeing(relative.turned()),
         }
     }
 
@@ -60,12 +60,12 @@ impl Sight {
         requires end { IsReference end }
         ensures { IsTrue result ↔ Admits self end }
     {
-        let lead = Lead::between(self.first, end);
-        if 0 < lead.way {
-            self.above.allows(lead)
-        } else if lead.way < 0 {
-            self.below.allows(lead.turned())
-        } else if is_same(lead.step, 0) {
+        let relative = Relative::between(self.first, end);
+        if 0 < relative.way {
+            self.above.allows(relative)
+        } else if relative.way < 0 {
+            self.below.allows(relative.turned())
+        } else if is_same(relative.step, 0) {
             self.level
         } else {
             self.still

@@ -1,7 +1,7 @@
 use Rattle.std.proofs.Common.{◌≡◌, ◌+◌, ℕ, length, get_or, sym, subst, arith}
 use Rattle.iup.specs.Bounds.{Reaches}
 use Rattle.iup.proofs.ArcLemmas.{reaches_cyclic}
-use Rattle.iup_optimal.proofs.RowLemmas.{FewestBack, back_kept, back_taken, least_from_fewest_back}
+use Rattle.iup_optimal.proofs.RowLemmas.{FewestBack, back_kept, back_taken, least_from_fewest_back, back_enough}
 use Rattle.iup_optimal.proofs.row.fewest_back.Goals as goal
 use Rattle.iup_optimal.proofs.row.fewest_back.Goals.{then-through-fewest+then-reaches, else-through-fewest, else-through-fewest-via-then-through-fewest+else-reaches, else-through-fewest-via-else-through-fewest}
 
@@ -38,3 +38,13 @@ returns-clause-fewest c =
     let deltas = c.args.table.now.deltas.now in
     least_from_fewest_back (Reaches points deltas) (length points) c.args.end c.args.row.now c.loop-nearer.nearer c.args.back c.loop-nearer.fewest
     (reaches_cyclic points deltas c.args.table.now.contour.same) c.requires.row c.requires.back c.requires.some (omega arith) (omega arith) c.loop-nearer.invariant.found
+
+pub returns-then-nearer-gt0-clause-fewest : goal.returns-then-nearer-gt0-clause-fewest
+returns-then-nearer-gt0-clause-fewest c =
+    let points = c.args.table.now.points.now in
+    let deltas = c.args.table.now.deltas.now in
+    let row = c.args.row.now in
+    let k = c.loop-nearer.fewest in
+    least_from_fewest_back (Reaches points deltas) (length points) c.args.end row c.args.back c.args.back k
+    (reaches_cyclic points deltas c.args.table.now.contour.same) c.requires.row c.requires.back c.requires.some (omega arith) (omega arith)
+    (back_enough (Reaches points deltas) c.args.end row c.loop-nearer.nearer c.args.back k c.requires.row (omega arith) (omega arith) (omega arith) (omega arith) c.loop-nearer.invariant.found)

@@ -1,7 +1,7 @@
 use Rattle.std.proofs.Common.{◌≡◌, ◌+◌, ◌-◌, ◌<◌, ℕ, length, get_or, sym, subst, arith}
 use Rattle.iup.specs.Bounds.{Reaches}
 use Rattle.iup.proofs.ArcLemmas.{reaches_cyclic}
-use Rattle.iup_optimal.proofs.RowLemmas.{FewestTo, one_step, leads_through, fewest_kept, fewest_taken, least_from_fewest}
+use Rattle.iup_optimal.proofs.RowLemmas.{FewestTo, one_step, leads_through, fewest_kept, fewest_taken, least_from_fewest, fewest_enough}
 use Rattle.iup_optimal.proofs.row.fewest_to.Goals as goal
 use Rattle.iup_optimal.proofs.row.fewest_to.Goals.{then-through-fewest+then-reaches, else-through-fewest, else-through-fewest-via-then-through-fewest+else-reaches, else-through-fewest-via-else-through-fewest}
 
@@ -56,3 +56,13 @@ returns-clause-fewest c =
     let deltas = c.args.table.now.deltas.now in
     least_from_fewest (Reaches points deltas) (length points) c.args.start c.args.row.now c.loop-from.from c.args.to c.loop-from.fewest
     (reaches_cyclic points deltas c.args.table.now.contour.same) c.requires.row c.requires.to c.requires.some (omega arith) c.loop-from.invariant.found
+
+pub returns-then-from-gt0-clause-fewest : goal.returns-then-from-gt0-clause-fewest
+returns-then-from-gt0-clause-fewest c =
+    let points = c.args.table.now.points.now in
+    let deltas = c.args.table.now.deltas.now in
+    let row = c.args.row.now in
+    let k = c.loop-from.fewest in
+    least_from_fewest (Reaches points deltas) (length points) c.args.start row c.args.to c.args.to k
+    (reaches_cyclic points deltas c.args.table.now.contour.same) c.requires.row c.requires.to c.requires.some (omega arith)
+    (fewest_enough (Reaches points deltas) c.args.start row c.loop-from.from c.args.to k c.requires.row (omega arith) (omega arith) (omega arith) c.loop-from.invariant.found)

@@ -1,7 +1,7 @@
 use Rattle.std.proofs.Common.{FitsSigned, to_z-of_z, arith, rules}
 use Rattle.std.proofs.lemmas.Int.{ints}
 use Rattle.std.specs.Int.{w64}
-use Rattle.iup_optimal.proofs.side.Lead.is_on_line.Goals as goal
+use Rattle.iup_optimal.proofs.side.Relative.is_on_line.Goals as goal
 
 pub returns : goal.returns
 returns c =

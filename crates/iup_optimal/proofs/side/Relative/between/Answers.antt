@@ -1,7 +1,7 @@
 use Rattle.std.proofs.Common.{◌-ℤ◌, FitsSigned, to_z-of_z, refl, arith}
 use Rattle.std.proofs.lemmas.Int.{ints}
 use Rattle.std.specs.Int.{w64}
-use Rattle.iup_optimal.proofs.side.Lead.between.Goals as goal
+use Rattle.iup_optimal.proofs.side.Relative.between.Goals as goal
 
 pub returns-clause-value : goal.returns-clause-value
 returns-clause-value c =
