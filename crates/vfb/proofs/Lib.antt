@@ -1,6 +1,6 @@
 pub mod WordLemmas
+pub mod MasterLemmas
+pub mod ReadingLemmas
 pub mod FileLemmas
-pub mod GlyphLemmas
-pub mod DrawLemmas
 pub mod PerformingLemmas
 pub mod SayingLemmas

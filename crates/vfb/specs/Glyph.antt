@@ -1,68 +1,73 @@
--- The glyph that two drawings make on one axis: its deltas, its variation data, and what they draw.
-use Rattle.std.specs.Prelude.{◌≡◌, ℕ, ℤ, pos, ◌+◌, ◌<◌, ◌+ℤ◌, ◌-ℤ◌, ◌*ℤ◌, Bool, ◌&&◌, List, [], ◌∷◌, ◌++◌, length, map, flat_map, slice_index_or}
-use Rattle.std.specs.Bool.{MatchBool}
-use Rattle.std.specs.Ordering.{int_eq}
-use Rattle.std.specs.List.{list_all}
+-- The glyph of masters: its variation data, what is said of them, and what they draw.
+use Rattle.std.specs.Prelude.{◌≡◌, ℕ, ℤ, ◌+◌, ◌*◌, ◌<◌, List, [], length, map, nat_lt, sum_by, count_by, slice_index_or}
+use Rattle.fixpoint.specs.Rounding.{round_up}
 use Rattle.fixpoint.specs.declared.plane.Pair.{Pair}
-use Rattle.glif.specs.declared.shape.Point.{Point}
-use Rattle.glif.specs.declared.shape.Drawing.{Drawing}
-use Rattle.variation_rules.specs.InferredDelta.{still}
-use Rattle.variation_rules.specs.TupleVariations.{MeansTuples, plain_triple}
-use Rattle.variation_rules.specs.Scalar.{scalar_of}
+use Rattle.glif.specs.declared.shape.Outline.{Outline}
+use Rattle.variation_rules.specs.TupleVariations.{MeansTuples, PacksTuples}
 use Rattle.variation_rules.specs.DrawnOutline.{Fills, drawn, drawn_advance}
 use Rattle.variation_rules.specs.declared.tuple.TupleVariation.{TupleVariation}
-use Rattle.gvar_table.specs.OneTuple.{IsOneTuple}
-use Rattle.vfb.specs.Faults.{contour_lengths}
+use Rattle.region_support.specs.MasterOrder.{axes_of}
+use Rattle.region_support.specs.Regions.{regions_of}
+use Rattle.delta_solve.specs.Deltas.{deltas_of, model_value}
+use Rattle.delta_solve.specs.Outlines.{points_of, contour_lengths, x_of, y_of, advance_of}
+use Rattle.delta_solve.specs.GlyphModels.{default_of}
+use Rattle.vfb.specs.Lines.{counts_line}
+use Rattle.vfb.specs.Masters.{Masters}
 
--- where a point is
-abbrev pub place : Point → Pair
-place point = record { x = point.x; y = point.y }
+-- what is written of a glyph, and what is said of it
+pub record Made : Type 0 where
+  pub bytes : List ℕ
+  pub summary : List ℕ
 
--- all points of the outline, contour by contour
-abbrev pub points_of : Drawing → List Pair
-points_of drawing = map place (flat_map (λ contour. contour) drawing.outline.contours)
+-- the default's drawing
+abbrev pub default_outline : Masters → Outline
+default_outline masters = default_of masters.outlines
 
--- the way from each point to the other drawing's
-abbrev pub moves : List Pair → List Pair → List (ℤ × ℤ)
-moves (a ∷ more) (b ∷ others) = (b.x -ℤ a.x, b.y -ℤ a.y) ∷ moves more others
-moves _ _ = []
+-- how many points its outline has
+abbrev pub point_count : Masters → ℕ
+point_count masters = length (points_of (default_outline masters))
 
--- The deltas from the first drawing to the second: those of the outline's points, and those of the four phantom
--- points, of which the second stands at the advance.
-abbrev pub deltas_of : Drawing → Drawing → List (ℤ × ℤ)
-deltas_of first second = moves (points_of first) (points_of second)
-    ++ ((pos 0, pos 0) ∷ (second.outline.advance -ℤ first.outline.advance, pos 0) ∷ (pos 0, pos 0) ∷ (pos 0, pos 0) ∷ [])
+abbrev pub axis_count : Masters → ℕ
+axis_count masters = axes_of masters.locations
 
-abbrev pub is_still : ℤ × ℤ → Bool
-is_still delta = int_eq delta.0 (pos 0) && int_eq delta.1 (pos 0)
+-- how many outline points a tuple names, among so many
+abbrev pub explicit_count : ℕ → TupleVariation → ℕ
+explicit_count points tuple = count_by (λ point. nat_lt point points) tuple.points
 
--- whether nothing moves
-abbrev pub are_equal : Drawing → Drawing → Bool
-are_equal first second = list_all is_still (deltas_of first second)
+-- The bytes hold the tuples of the masters in maximal runs, and what is said are their counts.
+pub record IsMadeOf (masters : Masters) (made : Made) : Type 0 where
+  pub tuples : List TupleVariation
+  pub packed : PacksTuples (axis_count masters) (point_count masters + 4) [] made.bytes tuples
+  pub counted : made.summary ≡ counts_line (length tuples) (sum_by (explicit_count (point_count masters)) tuples) (length tuples * point_count masters)
 
--- The variation data that are written: none where nothing moves, else one tuple of all points with its peak at the
--- end of the axis.
-abbrev pub IsData : Drawing → Drawing → List ℕ → Type 0
-IsData first second bytes = MatchBool (are_equal first second) (bytes ≡ []) (IsOneTuple (pos 16384) (deltas_of first second) bytes)
+-- the support model's value of one number of the outlines at a location, in 65536ths
+abbrev pub value_at : Masters → (Outline → ℤ) → List ℤ → ℤ
+value_at masters number at =
+    model_value (regions_of masters.locations) (deltas_of (regions_of masters.locations) masters.locations (map number masters.outlines)) at
 
--- the value at a location of the straight line from a at the default to b at the end of the axis, in 65536ths
-abbrev pub between : ℤ → ℤ → ℤ → ℤ
-between at a b = (pos 65536 *ℤ a) +ℤ (scalar_of 16 (plain_triple (pos 16384) ∷ []) (at ∷ []) *ℤ (b -ℤ a))
+abbrev pub location_of : Masters → ℕ → List ℤ
+location_of masters master = slice_index_or masters.locations master []
 
--- The bytes are glyph variation data on one axis. Drawn over the first drawing they give at each location, for each
--- coordinate and for the advance, the line to the second one. (It holds at every number, and so from -16384 to 16384.
--- Bytes mean one list of tuples at most, and tuples fill an outline in one way: both are laws of the meaning.)
-pub record DrawsBetween (first second : Drawing) (bytes : List ℕ) : Type 0 where
+abbrev pub outline_of : Masters → ℕ → Outline
+outline_of masters master = slice_index_or masters.outlines master (default_outline masters)
+
+-- The bytes are glyph variation data. Drawn over the default's drawing they give at each location, for each coordinate
+-- and for the advance, the value of the support model; and at each master's own location, rounded, what it draws.
+-- (Bytes mean one list of tuples at most, and tuples fill an outline in one way: both are laws of the meaning.)
+pub record IsDrawnBy (masters : Masters) (bytes : List ℕ) : Type 0 where
   pub tuples : List TupleVariation
   pub fills : List (List Pair)
-  pub means : MeansTuples 1 (length (points_of first) + 4) [] bytes tuples
-  pub filled : Fills (contour_lengths first) (points_of first) tuples fills
-  pub xs : (at : ℤ) (i : ℕ) → i < length (points_of first) →
-      drawn (λ p. p.x) (points_of first) (at ∷ []) tuples fills i
-      ≡ between at (slice_index_or (points_of first) i still).x (slice_index_or (points_of second) i still).x
-  pub ys : (at : ℤ) (i : ℕ) → i < length (points_of first) →
-      drawn (λ p. p.y) (points_of first) (at ∷ []) tuples fills i
-      ≡ between at (slice_index_or (points_of first) i still).y (slice_index_or (points_of second) i still).y
-  pub advance : (at : ℤ) →
-      drawn_advance first.outline.advance (length (points_of first)) (at ∷ []) tuples
-      ≡ between at first.outline.advance second.outline.advance
+  pub means : MeansTuples (axis_count masters) (point_count masters + 4) [] bytes tuples
+  pub filled : Fills (contour_lengths (default_outline masters)) (points_of (default_outline masters)) tuples fills
+  pub xs : (at : List ℤ) (point : ℕ) → length at ≡ axis_count masters → point < point_count masters →
+      drawn (λ p. p.x) (points_of (default_outline masters)) at tuples fills point ≡ value_at masters (x_of point) at
+  pub ys : (at : List ℤ) (point : ℕ) → length at ≡ axis_count masters → point < point_count masters →
+      drawn (λ p. p.y) (points_of (default_outline masters)) at tuples fills point ≡ value_at masters (y_of point) at
+  pub advance : (at : List ℤ) → length at ≡ axis_count masters →
+      drawn_advance (default_outline masters).advance (point_count masters) at tuples ≡ value_at masters advance_of at
+  pub own_xs : (master point : ℕ) → master < length masters.locations → point < point_count masters →
+      round_up (drawn (λ p. p.x) (points_of (default_outline masters)) (location_of masters master) tuples fills point) 65536 ≡ x_of point (outline_of masters master)
+  pub own_ys : (master point : ℕ) → master < length masters.locations → point < point_count masters →
+      round_up (drawn (λ p. p.y) (points_of (default_outline masters)) (location_of masters master) tuples fills point) 65536 ≡ y_of point (outline_of masters master)
+  pub own_advance : (master : ℕ) → master < length masters.locations →
+      round_up (drawn_advance (default_outline masters).advance (point_count masters) (location_of masters master) tuples) 65536 ≡ (outline_of masters master).advance

@@ -1,0 +1,178 @@
+ghost use Rattle.std.specs.Prelude.{◌≡◌, ◌<◌, length, map, All, IfOk};
+ghost use Rattle.outside.specs.Reading.{GivesBy};
+ghost use Rattle.glif.specs.Limits.{IsWithinLimits};
+ghost use Rattle.glif.specs.declared.shape.Drawing.{Drawing};
+ghost use Rattle.region_support.specs.Places.{places_of};
+ghost use Rattle.region_support.specs.Sorting.{IsOrder, places_at};
+ghost use Rattle.vfb.specs.Making.{ArePlaced, shown};
+ghost use Rattle.vfb.specs.Masters.{AreGathered, drawing_numbered, gathered, masters_in, ordered, place_fault, places_of_drawings};
+ghost use Rattle.vfb.specs.Stops.{Refuses, StopsBy, IsReadFrom, NeverFails};
+ghost use Rattle.vfb.specs.Words.{seen};
+
+use crate::contours::all_alike;
+use crate::drawings::ReadStop;
+use crate::words::Placed;
+use glif::{Drawing, Outline, Point};
+use outside::{Fault, Kind, Name, NoMemory, Seq, Spot};
+use region_support::Location;
+use std::alloc::Global;
+
+/// The masters of a glyph in their order, the default first.
+#[derive(Drop)]
+pub(crate) struct Masters {
+    /// The glyph's name, which is that of the default's drawing.
+    pub(crate) name: Name,
+    /// Where each master stands.
+    pub(crate) locations: Seq<Location>,
+    /// What each draws.
+    pub(crate) outlines: Seq<Outline>,
+}
+
+/// A fault of the places of the drawings with these two numbers.
+fn place_fault(alloc: Global, kind: Kind, at: u32, also: u32) -> Result<Fault, NoMemory>
+    ensures { IfOk result (λ fault. fault ≡ place_fault kind at also) }
+{
+    Ok(Fault {
+        path: Name::from_str(alloc, "")?,
+        spot: Spot {
+            kind,
+            item: Name::from_str(alloc, "")?,
+            at: u64::from(at),
+            also: u64::from(also),
+            first: 0,
+            second: 0,
+        },
+    })
+}
+
+/// Stops with a fault of the places of the drawings with these two numbers.
+fn refuse_places<'a>(alloc: Global, kind: Kind, at: u32, also: u32) -> ReadStop<'a>
+    ensures { Refuses (place_fault kind at also) result }
+{
+    match place_fault(alloc, kind, at, also) {
+        Ok(fault) => ReadStop::Refused(fault),
+        Err(NoMemory) => ReadStop::NoMemory,
+    }
+}
+
+/// An equal place of its own.
+fn copy_place(at: &Location) -> Result<Location, NoMemory>
+    ensures { IfOk result (λ copy. copy.items ≡ at.now.items) }
+{
+    Ok(at.clone()?)
+}
+
+/// Where the drawings stand, in the order of the words.
+fn places_of(alloc: Global, placed: &[Placed<'_>]) -> Result<Seq<Location>, NoMemory>
+    ensures { IfOk result (λ places. places_of places ≡ places_of_drawings (map seen placed.now)) }
+{
+    let mut places = Vec::new(alloc);
+    for one in placed {
+        places.push(copy_place(&one.at)?)?;
+    }
+    Ok(Seq::from_vec(places))
+}
+
+/// The numbers of the drawings at these places, in the order of masters.
+fn ordered<'a>(_alloc: Global, _places: &Seq<Location>) -> Result<Seq<u32>, ReadStop<'a>>
+    ensures order { IsReadFrom (ordered (places_of _places.now)) result }
+    ensures never { NeverFails result }
+    ensures is_order { IfOk result (IsOrder (places_of _places.now)) }
+{
+    Err(ReadStop::NoMemory)
+}
+
+/// The places of these numbers, in their order.
+fn places_in(alloc: Global, places: &[Location], order: &[u32]) -> Result<Seq<Location>, NoMemory>
+    requires { All (λ number. number < length places.now) order.now }
+    ensures { IfOk result (λ sorted. places_of sorted ≡ places_at (places_of places.now) order.now) }
+{
+    let mut sorted = Vec::new(alloc);
+    for number in order {
+        sorted.push(copy_place(&places[*number as usize])?)?;
+    }
+    Ok(Seq::from_vec(sorted))
+}
+
+/// An equal outline of its own.
+fn copy_of(alloc: Global, outline: &Outline) -> Result<Outline, NoMemory>
+    ensures { IfOk result (λ copy. copy ≡ outline.now) }
+{
+    let mut contours: Vec<Seq<Point>> = Vec::new(alloc);
+    for contour in outline.contours.as_slice() {
+        contours.push(Seq::from_vec(Vec::from_slice(alloc, contour.as_slice())?))?;
+    }
+    Ok(Outline {
+        advance: outline.advance,
+        contours: Seq::from_vec(contours),
+    })
+}
+
+/// What the drawings of these numbers draw, in their order.
+fn outlines_in(
+    alloc: Global,
+    drawings: &[Drawing],
+    order: &[u32],
+) -> Result<Seq<Outline>, NoMemory>
+    requires { All (λ number. number < length drawings.now) order.now }
+    ensures { IfOk result (λ outlines. outlines ≡ map (λ number. (drawing_numbered drawings.now number).outline) order.now) }
+{
+    let mut outlines = Vec::new(alloc);
+    for number in order {
+        outlines.push(copy_of(alloc, &drawings[*number as usize].outline)?)?;
+    }
+    Ok(Seq::from_vec(outlines))
+}
+
+/// The masters that the drawings at these places are, in their order.
+fn masters_in(
+    alloc: Global,
+    places: &[Location],
+    drawings: &[Drawing],
+    order: &[u32],
+) -> Result<Masters, NoMemory>
+    requires some { 0 < length order.now }
+    requires one_each { length drawings.now ≡ length places.now }
+    requires numbers { All (λ number. number < length places.now) order.now }
+    ensures { IfOk result (λ masters. shown masters ≡ masters_in (places_of places.now) drawings.now order.now) }
+{
+    Ok(Masters {
+        name: drawings[order[0] as usize].name.try_copy(alloc)?,
+        locations: places_in(alloc, places, order)?,
+        outlines: outlines_in(alloc, drawings, order)?,
+    })
+}
+
+/// The masters that the drawings are, one for each that the words place: in their order, all with
+/// contours like the default's.
+pub(crate) fn gather<'a>(
+    alloc: Global,
+    placed: &[Placed<'a>],
+    drawings: &[Drawing],
+) -> Result<Masters, ReadStop<'a>>
+    requires placed { ArePlaced (map seen placed.now) }
+    requires one_each { length drawings.now ≡ length placed.now }
+    requires within { All (λ (drawing : Drawing). IsWithinLimits drawing.outline) drawings.now }
+    ensures gathers { GivesBy StopsBy shown result (gathered (map seen placed.now) drawings.now) }
+    ensures never { NeverFails result }
+    ensures gathered { IfOk result (λ masters. AreGathered (shown masters)) }
+{
+    let places = match places_of(alloc, placed) {
+        Ok(places) => places,
+        Err(NoMemory) => return Err(ReadStop::NoMemory),
+    };
+    let order = match ordered(alloc, &places) {
+        Ok(order) => order,
+        Err(stop) => return Err(stop),
+    };
+    let order = order.as_slice();
+    let default = &drawings[order[0] as usize].outline;
+    match all_alike(alloc, default, placed, drawings) {
+        Ok(()) => {}
+        Err(stop) => return Err(stop),
+    }
+    match masters_in(alloc, places.as_slice(), drawings, order) {
+        Ok(masters) => Ok(masters),
+        Err(NoMemory) => Err(ReadStop::NoMemory),
+    }
+}
