@@ -1,3 +1,4 @@
 pub mod Deltas
+pub mod Tables
 pub mod Outlines
 pub mod GlyphModels

@@ -1,5 +1,5 @@
 -- What the outlines of a glyph's masters are compared and computed by.
-use Rattle.std.specs.Prelude.{◌≡◌, ℕ, ℤ, Bool, List, length, map, flat_map, slice_index_or}
+use Rattle.std.specs.Prelude.{ℕ, ℤ, Bool, List, length, map, flat_map, slice_index_or}
 use Rattle.fixpoint.specs.declared.plane.Pair.{Pair}
 use Rattle.glif.specs.declared.shape.Point.{Point}
 use Rattle.glif.specs.declared.shape.Outline.{Outline}
@@ -24,12 +24,19 @@ contour_lengths outline = map length outline.contours
 abbrev pub contour_kinds : Outline → List (List Bool)
 contour_kinds outline = map (λ contour. map (λ (point : Point). point.on) contour) outline.contours
 
--- the coordinates of the point of this number
+-- the coordinates of the pair of this number
+abbrev pub x_at : ℕ → List Pair → ℤ
+x_at point pairs = (slice_index_or pairs point still).x
+
+abbrev pub y_at : ℕ → List Pair → ℤ
+y_at point pairs = (slice_index_or pairs point still).y
+
+-- those of the outline's point of this number
 abbrev pub x_of : ℕ → Outline → ℤ
-x_of point outline = (slice_index_or (points_of outline) point still).x
+x_of point outline = x_at point (points_of outline)
 
 abbrev pub y_of : ℕ → Outline → ℤ
-y_of point outline = (slice_index_or (points_of outline) point still).y
+y_of point outline = y_at point (points_of outline)
 
 abbrev pub advance_of : Outline → ℤ
 advance_of outline = outline.advance

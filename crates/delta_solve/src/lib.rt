@@ -2,6 +2,19 @@
 //! master's own.
 #![tactic(auto)]
 
+mod glyph;
+mod laws;
 mod model;
+mod number;
+mod scalars;
+mod sums;
+#[cfg(test)]
+mod tests;
+mod values;
 
+pub use glyph::solve_glyph;
+pub use laws::{masters_return, rows_suffice};
 pub use model::{DeltaStop, GlyphModel, GlyphTuple};
+pub use number::solve;
+pub use scalars::{ScalarTable, table};
+pub use values::{advance_at, model_at};

@@ -1,5 +1,8 @@
+ghost use Rattle.std.specs.Prelude.{◌≡◌};
+
 use fixpoint::Pair;
-use outside::Seq;
+use outside::{NoMemory, Seq};
+use std::alloc::{AllocError, AllocFailed};
 
 /// Why deltas can't be had.
 #[derive(Debug, Drop, PartialEq, Eq)]
@@ -18,6 +21,36 @@ pub enum DeltaStop {
     },
     /// Memory ran out.
     NoMemory,
+}
+
+impl From<NoMemory> for DeltaStop {
+    ghost use Rattle.delta_solve.specs.declared.model.DeltaStop.TheVariants.{NoMemory};
+
+    ghost from_gives = { λ _ stop. stop ≡ NoMemory };
+
+    fn from(_: NoMemory) -> DeltaStop {
+        DeltaStop::NoMemory
+    }
+}
+
+impl From<AllocError> for DeltaStop {
+    ghost use Rattle.delta_solve.specs.declared.model.DeltaStop.TheVariants.{NoMemory};
+
+    ghost from_gives = { λ _ stop. stop ≡ NoMemory };
+
+    fn from(_: AllocError) -> DeltaStop {
+        DeltaStop::NoMemory
+    }
+}
+
+impl<T: Drop> From<AllocFailed<T>> for DeltaStop {
+    ghost use Rattle.delta_solve.specs.declared.model.DeltaStop.TheVariants.{NoMemory};
+
+    ghost from_gives = { λ _ stop. stop ≡ NoMemory };
+
+    fn from(_: AllocFailed<T>) -> DeltaStop {
+        DeltaStop::NoMemory
+    }
 }
 
 /// What one master adds to the drawings of a glyph, in font units. That of the default is its whole drawing.

@@ -1,1 +1,4 @@
+mod DecimalLaws
+mod Numbers
 pub mod RoundingLemmas
+mod Runs

@@ -1,1 +1,3 @@
+pub mod DecimalText
+pub mod PartsView
 pub mod Rounding

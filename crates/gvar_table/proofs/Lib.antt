@@ -1,4 +1,4 @@
-pub mod FirstRun
-pub mod PackedDeltas
-pub mod OnePacking
-pub mod OneTuple
+pub mod PartLemmas
+pub mod HeaderLemmas
+pub mod GlyphLemmas
+pub mod OneWriting

@@ -1,7 +1,8 @@
 -- Laws of the layout.
-use Rattle.std.specs.Prelude.{◌≡◌, ℕ, ℤ, List}
-use Rattle.gvar_table.specs.OneTuple.{IsOneTuple}
+use Rattle.std.specs.Prelude.{◌≡◌, ℕ, List}
+use Rattle.variation_rules.specs.declared.tuple.TupleVariation.{TupleVariation}
+use Rattle.gvar_table.specs.Layout.{IsWritten}
 
--- a peak and deltas have one spelling
+-- tuples have one spelling
 abbrev pub OneSpelling : Type 0
-OneSpelling = (peak : ℤ) (deltas : List (ℤ × ℤ)) (bytes other : List ℕ) → IsOneTuple peak deltas bytes → IsOneTuple peak deltas other → bytes ≡ other
+OneSpelling = (count : ℕ) (tuples : List TupleVariation) (bytes other : List ℕ) → IsWritten count bytes tuples → IsWritten count other tuples → bytes ≡ other

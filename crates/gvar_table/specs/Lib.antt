@@ -1,3 +1,3 @@
-pub mod OneTuple
-pub mod FirstRun
+pub mod Tuples
+pub mod Layout
 pub mod Laws

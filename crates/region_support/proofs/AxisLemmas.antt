@@ -1,5 +1,5 @@
 -- One axis of a region at a value: where the factor is 1, where it is 0, and what a cut leaves.
-use Rattle.std.proofs.Common.{◌≡◌, ◌≢◌, sym, ◌∙◌, ap, subst, ℕ, ℤ, pos, negsuc, ◌*ℤ◌, ◌≤ℤ◌, ◌<ℤ◌, ◌<◌, true, false, true≢false, ◌⊎◌, inl, inr, arith}
+use Rattle.std.proofs.Common.{◌≡◌, ◌≢◌, refl, sym, ◌∙◌, ap, subst, ℕ, ℤ, pos, negsuc, ◌*ℤ◌, ◌≤ℤ◌, ◌<ℤ◌, ◌<◌, true, false, true≢false, ◌⊎◌, inl, inr, arith}
 use Rattle.std.specs.Prelude.{int_lt, int_le, unsigned_abs}
 use Rattle.std.specs.Ordering.{int_eq}
 use Rattle.std.proofs.lemmas.Int.{ints}
@@ -7,7 +7,7 @@ use Rattle.fixpoint.specs.Rounding.{round_up}
 use Rattle.fixpoint.proofs.RoundingLemmas.{scaled_by_one, scaled_by_zero}
 use Rattle.variation_rules.specs.declared.region.Triple.{Triple}
 use Rattle.variation_rules.specs.Scalar.{is_ignored, factor, scaled}
-use Rattle.region_support.specs.Regions.{is_within, ratio, is_below, cut_triple}
+use Rattle.region_support.specs.Regions.{no_axis, IsNoneIfIgnored, is_within, ratio, is_below, cut_triple}
 
 -- what a test of two numbers tells
 pub lt_tells : (a b : ℤ) → ((int_lt a b ≡ true) × (a <ℤ b)) ⊎ ((int_lt a b ≡ false) × (b ≤ℤ a))
@@ -43,7 +43,10 @@ pub record IsBelow (t : Triple) : Type 0 where
   pub end : t.end ≤ℤ pos 0
 
 abbrev pub IsShaped : Triple → Type 0
-IsShaped t = (t.peak ≡ pos 0) ⊎ (IsAbove t ⊎ IsBelow t)
+IsShaped t = (t ≡ no_axis) ⊎ (IsAbove t ⊎ IsBelow t)
+
+no_axis_peak : (t : Triple) → t ≡ no_axis → t.peak ≡ pos 0
+no_axis_peak t none = ap (λ (u : Triple). u.peak) none
 
 above_counts : (t : Triple) → IsAbove t → is_ignored t ≡ false
 above_counts t above = let record { start = a; peak = b; end = c } = above in grind (arith, ints)
@@ -52,7 +55,7 @@ below_counts : (t : Triple) → IsBelow t → is_ignored t ≡ false
 below_counts t below = let record { start = a; peak = b; end = c } = below in grind (arith, ints)
 
 shaped_counts : (t : Triple) → IsShaped t → t.peak ≢ pos 0 → is_ignored t ≡ false
-shaped_counts t (inl none) some = absurd (some none)
+shaped_counts t (inl none) some = absurd (some (no_axis_peak t none))
 shaped_counts t (inr (inl above)) some = above_counts t above
 shaped_counts t (inr (inr below)) some = below_counts t below
 
@@ -61,7 +64,7 @@ out_has_peak t value out none = let counts = out.counts in grind (arith, ints)
 
 -- at the default such an axis, unless it is left out, is 0
 pub out_at_default : (t : Triple) → IsShaped t → t.peak ≢ pos 0 → IsOut t (pos 0)
-out_at_default t (inl none) some = absurd (some none)
+out_at_default t (inl none) some = absurd (some (no_axis_peak t none))
 out_at_default t (inr (inl above)) some =
     let record { start = a; peak = b; end = c } = above in
     record { counts = above_counts t above; beyond = inl (omega (arith, ints), omega (arith, ints)) }
@@ -84,7 +87,7 @@ inside_tells t value within =
 
 -- and that it isn't
 pub outside_tells : (t : Triple) (value : ℤ) → IsShaped t → is_within t value ≡ false → ((t.peak ≡ pos 0) × (value ≢ pos 0)) ⊎ IsOut t value
-outside_tells t value (inl none) beside = inl (none, grind (arith, ints))
+outside_tells t value (inl none) beside = let none_at : t.peak ≡ pos 0 = no_axis_peak t none in inl (none_at, grind (arith, ints))
 outside_tells t value (inr (inl above)) beside =
     let record { start = a; peak = b; end = c } = above in
     inr (record { counts = above_counts t above; beyond = grind (arith, ints) })
@@ -132,7 +135,7 @@ inside_below : (t : Triple) (value : ℤ) → IsInside t value → value <ℤ t.
 inside_below t value inside low = elim inside.strictly [ inl e ↦ absurd (omega (arith, ints, ap (λ (z : ℤ). z) e)) | inr e ↦ e.0 ]
 
 used_shaped : (t : Triple) → IsShaped t → t.peak ≢ pos 0 → IsAbove t ⊎ IsBelow t
-used_shaped t (inl none) some = absurd (some none)
+used_shaped t (inl none) some = absurd (some (no_axis_peak t none))
 used_shaped t (inr used) some = used
 
 cut_used : (g : ℕ × ℕ) (t : Triple) (value : ℤ) → IsAbove t ⊎ IsBelow t → IsInside t value → IsAbove (cut_triple g t value) ⊎ IsBelow (cut_triple g t value)
@@ -144,10 +147,22 @@ cut_used g t value used inside =
       | inr (inr low) ↦ subst P (sym low.1) (start_shaped t value used low.0 (inside_below t value inside low.0))
     ]
 
+used_peak : (t : Triple) → IsAbove t ⊎ IsBelow t → t.peak ≢ pos 0
+used_peak t (inl above) none = let record { start = a; peak = b; end = c } = above in absurd (omega (arith, ints, ap (λ (z : ℤ). z) none))
+used_peak t (inr below) none = let record { start = a; peak = b; end = c } = below in absurd (omega (arith, ints, ap (λ (z : ℤ). z) none))
+
+cut_none : (g : ℕ × ℕ) (t : Triple) (value : ℤ) → IsShaped t → t.peak ≡ pos 0 → value ≡ pos 0 → IsShaped (cut_triple g t value)
+cut_none g t value (inr used) none at = absurd (used_peak t used none)
+cut_none g t value (inl is) none at = inl (elim (cut_tells g t value) [
+  | inl same ↦ same.0 ∙ is
+  | inr (inl high) ↦ absurd (omega (arith, ints, high.0, ap (λ (z : ℤ). z) none, ap (λ (z : ℤ). z) at))
+  | inr (inr low) ↦ absurd (omega (arith, ints, low.0, ap (λ (z : ℤ). z) none, ap (λ (z : ℤ). z) at))
+])
+
 pub cut_shaped : (g : ℕ × ℕ) (t : Triple) (value : ℤ) → IsShaped t → is_within t value ≡ true → IsShaped (cut_triple g t value)
 cut_shaped g t value shaped within =
     elim (inside_tells t value within) [
-      | inl none ↦ inl (cut_peak g t value ∙ none.0)
+      | inl none ↦ cut_none g t value shaped none.0 none.1
       | inr inside ↦ inr (cut_used g t value (used_shaped t shaped inside.some) inside)
     ]
 
@@ -213,6 +228,11 @@ cut_puts_out g t value shaped within greatest some =
       }
     ]
 
+-- an axis of a region that the scalar leaves out is 0 throughout
+pub shaped_none : (t : Triple) → IsShaped t → IsNoneIfIgnored t
+shaped_none t (inl none) ignored = none
+shaped_none t (inr used) ignored = absurd (true≢false (sym ignored ∙ shaped_counts t (inr used) (used_peak t used)))
+
 -- the scalar at the peak is as before, outside it is 0, and once it is 0 it stays so
 one_at : (t : Triple) (value : ℤ) → t.peak ≡ value → factor t value ≡ (pos 1, pos 1)
 one_at t value e = subst (λ (z : ℤ). factor t z ≡ (pos 1, pos 1)) e (one_at_peak t)
@@ -231,6 +251,13 @@ nothing_outside s t value out = ap (λ (f : ℤ × ℤ). round_up (s *ℤ f.0) (
 
 some_below : (t : Triple) (value : ℤ) → 0 < unsigned_abs (factor t value).1
 some_below t value = grind (arith, ints)
+
+none_factor : (value : ℤ) → factor no_axis value ≡ (pos 1, pos 1)
+none_factor value = refl
+
+pub none_leaves : (s : ℤ) (value : ℤ) → scaled s no_axis value ≡ s
+unfolding scaled
+none_leaves s value = ap (λ (f : ℤ × ℤ). round_up (s *ℤ f.0) (unsigned_abs f.1)) (none_factor value) ∙ scaled_by_one s 1 (omega arith)
 
 pub nothing_stays : (t : Triple) (value : ℤ) → scaled (pos 0) t value ≡ pos 0
 unfolding scaled

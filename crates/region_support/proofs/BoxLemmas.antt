@@ -105,7 +105,7 @@ no_ratio (p ∷ ps) (t ∷ ts) (v ∷ vs) box same none =
     zero_or : (g : ℕ × ℕ) → is_below (0, 1) g ≡ false → g.0 ≡ 0
     zero_or g flat = grind arith
 
-rank_tells : (v : ℤ) (vs : List ℤ) → ((v ≡ pos 0) × (rank (v ∷ vs) ≡ rank vs)) ⊎ ((v ≢ pos 0) × (rank (v ∷ vs) ≡ rank vs + 1))
+pub rank_tells : (v : ℤ) (vs : List ℤ) → ((v ≡ pos 0) × (rank (v ∷ vs) ≡ rank vs)) ⊎ ((v ≢ pos 0) × (rank (v ∷ vs) ≡ rank vs + 1))
 rank_tells v vs = elim (eq_tells v (pos 0)) [
   | inl e ↦ inl (e.1, grind arith)
   | inr e ↦ inr (e.1, grind arith)

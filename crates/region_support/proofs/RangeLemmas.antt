@@ -5,7 +5,8 @@ use Rattle.std.specs.List.{AllByRecursion}
 use Rattle.std.specs.Int.{int_min, int_max}
 use Rattle.std.proofs.lemmas.Int.{ints}
 use Rattle.variation_rules.specs.declared.region.Triple.{Triple}
-use Rattle.region_support.specs.Regions.{value_on, least_on, greatest_on, first_triple, first_from, greatest_ratio, cut_triple, cut_triples, cut_by, cut_by_all, regions_after, regions_of, IsNormalised, IsNormalisedTriple, AreNormalisedPlaces, AreNormalisedRegions}
+use Rattle.region_support.specs.MasterOrder.{value_on}
+use Rattle.region_support.specs.Regions.{least_on, greatest_on, first_triple, first_from, greatest_ratio, cut_triple, cut_triples, cut_by, cut_by_all, regions_after, regions_of, IsNormalised, IsNormalisedTriple, AreNormalisedPlaces, AreNormalisedRegions}
 use Rattle.region_support.proofs.AxisLemmas.{cut_tells}
 use Rattle.region_support.proofs.BoxLemmas.{cut_by_tells}
 use Rattle.region_support.proofs.RegionLaw.{first_tells}

@@ -1,17 +1,17 @@
 -- The law of the regions: at a master's location its own region is whole and every later one is nothing.
-use Rattle.std.proofs.Common.{◌≡◌, ◌≢◌, refl, sym, ◌∙◌, ap, subst, ℕ, suc, ℤ, pos, ◌≤ℤ◌, ◌<ℤ◌, ◌+◌, ◌≤◌, ◌^◌, ◌⊎◌, inl, inr, List, [], ◌∷◌, ◌++◌, map, length, zero-add, add-zero, arith}
-use Rattle.std.specs.Prelude.{unsigned_abs}
+use Rattle.std.proofs.Common.{◌≡◌, ◌≢◌, refl, sym, ◌∙◌, ap, subst, ℕ, suc, ℤ, pos, ◌≤ℤ◌, ◌<ℤ◌, ◌+◌, ◌≤◌, ◌^◌, true, ◌⊎◌, inl, inr, List, [], ◌∷◌, ◌++◌, map, length, zero-add, add-zero, arith}
 use Rattle.std.specs.List.{AllByRecursion}
-use Rattle.std.specs.Ordering.{nat_cmp, ordering_then}
-use Rattle.std.proofs.Common.{Ordering, Less, Equal}
-use Rattle.std.specs.Cmp.Lexicographic.{slice_cmp}
+use Rattle.std.proofs.Common.{Less, Equal}
+use Rattle.std.specs.Cmp.{first_so, second_so}
+use Rattle.std.proofs.lemmas.Cmp.{tied_itself}
 use Rattle.std.proofs.lemmas.Int.{ints, fold-int_max_bounds, fold-int_min_bounds}
 use Rattle.std.proofs.lemmas.List.Elements.{recursion_from_All}
 use Rattle.variation_rules.specs.declared.region.Triple.{Triple}
-use Rattle.variation_rules.specs.Scalar.{scalar_of}
-use Rattle.region_support.specs.MasterOrder.{values_of, axes_from, points_from, side, rank, compare_masters, RisesBy, AreMasters}
-use Rattle.region_support.specs.Regions.{value_on, least_on, greatest_on, first_triple, first_from, cut_by, cut_by_all, regions_after, regions_of, AreTriangular}
-use Rattle.region_support.proofs.AxisLemmas.{IsShaped}
+use Rattle.variation_rules.specs.Scalar.{scaled, scalar_from, scalar_of}
+use Rattle.region_support.specs.MasterOrder.{is_zero, is_default, StartsWithDefault, value_on, rank, compare_masters, RisesBy, AreMasters}
+use Rattle.region_support.specs.Regions.{no_axis, IsNoneIfIgnored, AreNoneIfIgnored, FirstIsWhole, least_on, greatest_on, first_triple, first_from, cut_by, cut_by_all, regions_after, regions_of, AreTriangular}
+use Rattle.region_support.proofs.OrderLemmas.{compare_total, less_rank}
+use Rattle.region_support.proofs.AxisLemmas.{IsShaped, shaped_none, none_leaves}
 use Rattle.region_support.proofs.BoxLemmas.{IsBox, IsExcluded, own_whole, excluded_nothing, meets, meets_box, meets_keeps}
 
 -- the location is one of the list
@@ -46,7 +46,7 @@ greatest_high at axis all here =
 -- the form of an axis before any cut
 pub first_tells : (least greatest value : ℤ) → ((pos 0 <ℤ value) × (first_triple least greatest value ≡ record { start = pos 0; peak = value; end = greatest }))
     ⊎ (((value <ℤ pos 0) × (first_triple least greatest value ≡ record { start = least; peak = value; end = pos 0 }))
-    ⊎ ((value ≡ pos 0) × (first_triple least greatest value ≡ record { start = pos 0; peak = pos 0; end = pos 0 })))
+    ⊎ ((value ≡ pos 0) × (first_triple least greatest value ≡ no_axis)))
 first_tells least greatest value = grind (arith, ints)
 
 first_shaped : (least greatest value : ℤ) → least ≤ℤ value → value ≤ℤ greatest → ((first_triple least greatest value).peak ≡ value) × IsShaped (first_triple least greatest value)
@@ -122,37 +122,14 @@ triangular_after all earlier (at ∷ later) after here = (
   triangular_after all (earlier ++ (at ∷ [])) later after.1 here.1,
 )
 
-nat_itself : (n : ℕ) → nat_cmp n n ≡ Equal
-nat_itself n = grind arith
-
-nats_themselves : (ns : List ℕ) → slice_cmp nat_cmp ns ns ≡ Equal
-nats_themselves [] = refl
-nats_themselves (n ∷ ns) = rw (nat_itself n) (nats_themselves ns)
-
 -- a location isn't before itself
 compare_itself : (all : List (List ℤ)) (at : List ℤ) → compare_masters all at at ≡ Equal
-compare_itself all at =
-    let ranks : nat_cmp (rank at) (rank at) ≡ Equal = nat_itself (rank at) in
-    let points : nat_cmp (points_from all 0 at) (points_from all 0 at) ≡ Equal = nat_itself (points_from all 0 at) in
-    let axes : slice_cmp nat_cmp (axes_from 0 at) (axes_from 0 at) ≡ Equal = nats_themselves (axes_from 0 at) in
-    let sides : slice_cmp nat_cmp (map side (values_of at)) (map side (values_of at)) ≡ Equal = nats_themselves (map side (values_of at)) in
-    let sizes : slice_cmp nat_cmp (map unsigned_abs (values_of at)) (map unsigned_abs (values_of at)) ≡ Equal = nats_themselves (map unsigned_abs (values_of at)) in
-    five ranks points axes sides sizes
-  where
-    five : {a b c d e : Ordering} → a ≡ Equal → b ≡ Equal → c ≡ Equal → d ≡ Equal → e ≡ Equal → ordering_then a (ordering_then b (ordering_then c (ordering_then d e))) ≡ Equal
-    five {a} {b} {c} {d} {e} p q r s t =
-        ap (λ (o : Ordering). ordering_then o (ordering_then b (ordering_then c (ordering_then d e)))) p
-        ∙ (ap (λ (o : Ordering). ordering_then o (ordering_then c (ordering_then d e))) q
-        ∙ (ap (λ (o : Ordering). ordering_then o (ordering_then d e)) r
-        ∙ (ap (λ (o : Ordering). ordering_then o e) s ∙ t)))
+compare_itself all at = tied_itself (compare_total all) at
 
 -- and one that is before another has no more axes
-first_key : (a b : ℕ) (o : Ordering) → ordering_then (nat_cmp a b) o ≡ Less → a ≤ b
-first_key a b o less = grind arith
-
 compare_later : (all : List (List ℤ)) (a b : List ℤ) → compare_masters all a b ≡ Less → length a ≡ length b → IsLater a b
 compare_later all a b less same = (
-  first_key (rank a) (rank b) (ordering_then (nat_cmp (points_from all 0 b) (points_from all 0 a)) (ordering_then (slice_cmp nat_cmp (axes_from 0 a) (axes_from 0 b)) (ordering_then (slice_cmp nat_cmp (map side (values_of a)) (map side (values_of b))) (slice_cmp nat_cmp (map unsigned_abs (values_of a)) (map unsigned_abs (values_of b)))))) less,
+  less_rank all a b less,
   same,
   λ e. not_less (sym (compare_itself all a) ∙ (ap (λ (w : List ℤ). compare_masters all a w) e ∙ less)),
 )
@@ -182,3 +159,58 @@ all_among (at ∷ later) = (inl refl, among_front at later later (all_among late
 pub own_one_later_nothing : (axes : ℕ) (locations : List (List ℤ)) → AreMasters axes locations → AreTriangular (regions_of locations) locations
 own_one_later_nothing axes locations masters =
     triangular_after locations [] locations (later_all axes locations locations masters.equal_lengths masters.rising) (all_among locations)
+
+-- each axis of a region that the scalar leaves out is 0 throughout
+box_none : (at : List ℤ) (region : List Triple) → IsBox at region → AllByRecursion IsNoneIfIgnored region
+box_none [] [] box = tt
+box_none [] (t ∷ ts) box = absurd box
+box_none (p ∷ ps) [] box = absurd box
+box_none (p ∷ ps) (t ∷ ts) box = (shaped_none t box.1, box_none ps ts box.2)
+
+none_after : (all earlier later : List (List ℤ)) → AreAmong later all → AreNoneIfIgnored (regions_after all earlier later)
+none_after all earlier [] here = tt
+none_after all earlier (at ∷ later) here = (
+  box_none at (cut_by_all (first_from all 0 at) earlier) (region_box all earlier at here.0),
+  none_after all (earlier ++ (at ∷ [])) later here.1,
+)
+
+pub none_if_ignored : (locations : List (List ℤ)) → AreNoneIfIgnored (regions_of locations)
+none_if_ignored locations = none_after locations [] locations (all_among locations)
+
+-- and a region has one axis for each of its location
+box_length : (at : List ℤ) (region : List Triple) → IsBox at region → length region ≡ length at
+box_length [] [] box = refl
+box_length [] (t ∷ ts) box = absurd box
+box_length (p ∷ ps) [] box = absurd box
+box_length (p ∷ ps) (t ∷ ts) box = ap (λ (n : ℕ). suc n) (box_length ps ts box.2)
+
+lengths_after : (axes : ℕ) (all earlier later : List (List ℤ)) → AreAmong later all → AllByRecursion (λ at. length at ≡ axes) later → AllByRecursion (λ region. length region ≡ axes) (regions_after all earlier later)
+lengths_after axes all earlier [] here same = tt
+lengths_after axes all earlier (at ∷ later) here same = (
+  box_length at (cut_by_all (first_from all 0 at) earlier) (region_box all earlier at here.0) ∙ same.0,
+  lengths_after axes all (earlier ++ (at ∷ [])) later here.1 same.1,
+)
+
+pub same_lengths : (axes : ℕ) (locations : List (List ℤ)) → AreMasters axes locations → AllByRecursion (λ region. length region ≡ axes) (regions_of locations)
+same_lengths axes locations masters = lengths_after axes locations [] locations (all_among locations) masters.equal_lengths
+
+is_zero_tells : (v : ℤ) → is_zero v ≡ true → v ≡ pos 0
+is_zero_tells v zero = grind (arith, ints)
+
+-- the region of the default has no axis, and so is whole everywhere
+default_leaves : (all : List (List ℤ)) (axis : ℕ) (default at : List ℤ) (s : ℤ) → is_default default ≡ true → scalar_from s (first_from all axis default) at ≡ s
+default_leaves all axis [] at s none = refl
+default_leaves all axis (v ∷ vs) [] s none = refl
+default_leaves all axis (v ∷ vs) (a ∷ at) s none =
+    let zero_here : v ≡ pos 0 = is_zero_tells v (first_so (is_zero v) (is_default vs) none) in
+    let own : first_triple (least_on all axis) (greatest_on all axis) v ≡ no_axis = ap (λ (z : ℤ). first_triple (least_on all axis) (greatest_on all axis) z) zero_here in
+    ap (λ (t : Triple). scalar_from (scaled s t a) (first_from all (axis + 1) vs) at) own
+    ∙ (ap (λ (z : ℤ). scalar_from z (first_from all (axis + 1) vs) at) (none_leaves s a)
+    ∙ default_leaves all (axis + 1) vs at s (second_so (is_zero v) (is_default vs) none))
+
+first_whole_after : (all locations : List (List ℤ)) → StartsWithDefault locations → FirstIsWhole (regions_after all [] locations)
+first_whole_after all [] starts = tt
+first_whole_after all (default ∷ later) starts = λ places at. default_leaves all 0 default at (pos (2 ^ places)) starts
+
+pub first_is_whole : (axes : ℕ) (locations : List (List ℤ)) → AreMasters axes locations → FirstIsWhole (regions_of locations)
+first_is_whole axes locations masters = first_whole_after locations locations masters.default_first

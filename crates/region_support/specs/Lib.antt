@@ -1,5 +1,6 @@
 pub mod MasterOrder
 pub mod Sorting
+pub mod Keys
 pub mod Regions
 pub mod Places
 pub mod Laws

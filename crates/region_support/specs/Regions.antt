@@ -1,15 +1,11 @@
 -- The region of each master: a box around its location, as wide as the masters reach, cut by the masters before it.
-use Rattle.std.specs.Prelude.{◌≡◌, ℕ, ℤ, pos, ◌+◌, ◌*◌, ◌^◌, ◌-ℤ◌, neg_ℤ, ◌≤ℤ◌, Bool, true, not, ◌&&◌, ◌||◌, List, [], ◌∷◌, ◌++◌, map, fold, if◌then◌else◌, unsigned_abs, int_lt, nat_lt, slice_index_or}
+use Rattle.std.specs.Prelude.{◌≡◌, ℕ, ℤ, pos, ◌+◌, ◌*◌, ◌^◌, ◌-ℤ◌, neg_ℤ, ◌≤ℤ◌, Bool, true, not, ◌&&◌, ◌||◌, List, [], ◌∷◌, ◌++◌, map, fold, if◌then◌else◌, unsigned_abs, int_lt, nat_lt}
 use Rattle.std.specs.List.{AllByRecursion}
 use Rattle.std.specs.Ordering.{int_eq}
 use Rattle.std.specs.Int.{int_min, int_max}
 use Rattle.variation_rules.specs.declared.region.Triple.{Triple}
-use Rattle.variation_rules.specs.Scalar.{scalar_of}
-use Rattle.region_support.specs.MasterOrder.{is_zero}
-
--- the location's value on the axis of this number
-abbrev pub value_on : ℕ → List ℤ → ℤ
-value_on axis at = slice_index_or at axis (pos 0)
+use Rattle.variation_rules.specs.Scalar.{is_ignored, scalar_of}
+use Rattle.region_support.specs.MasterOrder.{is_zero, value_on}
 
 -- the least and the greatest value of any master on an axis, 0 among them
 abbrev pub least_on : List (List ℤ) → ℕ → ℤ
@@ -18,12 +14,16 @@ least_on locations axis = fold int_min (pos 0) (map (value_on axis) locations)
 abbrev pub greatest_on : List (List ℤ) → ℕ → ℤ
 greatest_on locations axis = fold int_max (pos 0) (map (value_on axis) locations)
 
+-- an axis that is left out
+abbrev pub no_axis : Triple
+no_axis = record { start = pos 0; peak = pos 0; end = pos 0 }
+
 -- from the default over the master's value to the farthest master on that side; an axis with the value 0 is left out
 abbrev pub first_triple : ℤ → ℤ → ℤ → Triple
 first_triple least greatest value =
     if int_lt (pos 0) value then (record { start = pos 0; peak = value; end = greatest })
     else (if int_lt value (pos 0) then (record { start = least; peak = value; end = pos 0 })
-    else (record { start = pos 0; peak = pos 0; end = pos 0 }))
+    else no_axis)
 
 -- the region before any cut, the first axis counted as this number
 abbrev pub first_from : List (List ℤ) → ℕ → List ℤ → List Triple
@@ -97,6 +97,18 @@ abbrev pub AreTriangular : List (List Triple) → List (List ℤ) → Type 0
 AreTriangular regions [] = Unit {0}
 AreTriangular [] (at ∷ ats) = ⊥
 AreTriangular (region ∷ regions) (at ∷ ats) = EndsTheRow (region ∷ regions) at × AreTriangular regions ats
+
+-- an axis that the scalar leaves out is 0 throughout
+abbrev pub IsNoneIfIgnored : Triple → Type 0
+IsNoneIfIgnored t = is_ignored t ≡ true → t ≡ no_axis
+
+abbrev pub AreNoneIfIgnored : List (List Triple) → Type 0
+AreNoneIfIgnored regions = AllByRecursion (λ region. AllByRecursion IsNoneIfIgnored region) regions
+
+-- the first region, the default's, is whole everywhere
+abbrev pub FirstIsWhole : List (List Triple) → Type 0
+FirstIsWhole [] = Unit {0}
+FirstIsWhole (region ∷ regions) = (places : ℕ) (at : List ℤ) → scalar_of places region at ≡ pos (2 ^ places)
 
 -- a normalised coordinate: from -1 to 1 in F2DOT14
 abbrev pub IsNormalised : ℤ → Type 0

@@ -1,13 +1,13 @@
 -- What putting the masters of a design space in order answers: their numbers in order, or why there is no order.
 -- Locations are numbered from 0 as they are listed.
-use Rattle.std.specs.Prelude.{◌≡◌, ℕ, ℤ, Bool, List, [], ◌∷◌, ◌++◌, length, map, Option, Some, None, if◌then◌else◌, IsPermutation, position, slice_index_or, option_map}
+use Rattle.std.specs.Prelude.{ℕ, ℤ, Bool, List, [], ◌∷◌, ◌++◌, length, map, Option, Some, None, if◌then◌else◌, IsPermutation, position, slice_index_or, option_map}
 use Rattle.std.specs.List.{list_any}
 use Rattle.std.specs.Ordering.{int_eq, is_lt}
 use Rattle.std.specs.Cmp.Lexicographic.{pointwise}
 use Rattle.variation_rules.specs.PackedPoints.{count_from}
 use Rattle.region_support.specs.MasterOrder.{is_default, compare_masters, AreMasters, axes_of}
-use Rattle.region_support.specs.declared.order.ModelStop.{ModelStop}
-use Rattle.region_support.specs.declared.order.ModelStop.TheVariants.{NoDefault, SameLocation}
+use Rattle.region_support.specs.declared.sorting.ModelStop.{ModelStop}
+use Rattle.region_support.specs.declared.sorting.ModelStop.TheVariants.{NoDefault, SameLocation}
 
 abbrev pub place_at : List (List ℤ) → ℕ → List ℤ
 place_at locations number = slice_index_or locations number []

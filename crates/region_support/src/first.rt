@@ -1,13 +1,14 @@
 ghost use Rattle.std.specs.Prelude.{◌≡◌, length};
+ghost use Rattle.region_support.specs.MasterOrder.{value_on};
 ghost use Rattle.region_support.specs.Places.{places_of};
-ghost use Rattle.region_support.specs.Regions.{value_on, least_on, greatest_on, first_triple, first_from};
+ghost use Rattle.region_support.specs.Regions.{least_on, greatest_on, first_triple, first_from};
 
 use crate::Location;
 use fixpoint::Fix;
 use variation_rules::Triple;
 
-// The location's value on an axis.
-fn value_on(location: &Location, axis: usize) -> i32
+/// The location's value on an axis.
+pub(crate) fn value_on(location: &Location, axis: usize) -> i32
     ensures { result ≡ value_on axis location.now.items }
 {
     match location.as_slice().get(axis) {

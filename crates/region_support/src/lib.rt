@@ -4,8 +4,9 @@
 mod cut;
 mod first;
 mod influence;
+mod key;
 mod laws;
-mod order;
+mod sorting;
 mod support;
 #[cfg(test)]
 mod tests;
@@ -13,8 +14,9 @@ mod tests;
 use arrayvec::ArrayVec;
 use fixpoint::Fix;
 pub use influence::scalar;
-pub use laws::own_one_later_nothing;
-pub use order::ModelStop;
+pub use laws::{keys_tell_apart, one_order, own_one_later_nothing};
+pub use sorting::{ModelStop, in_order, order};
+pub use support::boxes;
 pub use variation_rules::Triple;
 
 /// A place in the design space: one normalised coordinate an axis (F2DOT14), in the font's order of axes, at

@@ -1,7 +1,8 @@
 use Rattle.std.proofs.Common.{◌≡◌, map, fold, drop}
 use Rattle.std.specs.Int.{int_max}
 use Rattle.region_support.specs.Places.{places_of}
-use Rattle.region_support.specs.Regions.{value_on, greatest_on}
+use Rattle.region_support.specs.MasterOrder.{value_on}
+use Rattle.region_support.specs.Regions.{greatest_on}
 use Rattle.region_support.proofs.first.greatest_on.Given as goal
 
 -- the masters that are left complete it

@@ -1,7 +1,8 @@
 use Rattle.std.proofs.Common.{◌≡◌, map, fold, drop}
 use Rattle.std.specs.Int.{int_min}
 use Rattle.region_support.specs.Places.{places_of}
-use Rattle.region_support.specs.Regions.{value_on, least_on}
+use Rattle.region_support.specs.MasterOrder.{value_on}
+use Rattle.region_support.specs.Regions.{least_on}
 use Rattle.region_support.proofs.first.least_on.Given as goal
 
 -- the masters that are left complete it

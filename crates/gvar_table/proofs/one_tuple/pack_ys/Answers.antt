@@ -1,9 +1,0 @@
--- The y numbers of deltas fit words.
-use Rattle.std.proofs.Common.{All, FitsSigned, subst, sym, ◌∙◌}
-use Rattle.std.specs.Int.{w16}
-use Rattle.gvar_table.proofs.OneTuple.{ys_fit}
-use Rattle.gvar_table.proofs.one_tuple.pack_ys.Goals as goal
-
-pub pack_deltas-requires : goal.pack_deltas-requires
-pack_deltas-requires c =
-    subst (All (FitsSigned w16)) (sym (c.deref.ensures.value ∙ c.in_ok-ys.ensures)) (ys_fit c.args.deltas.now c.requires)

@@ -1,0 +1,4 @@
+pub mod FirstRun
+pub mod Classes
+pub mod Differences
+pub mod Laws
