@@ -1,4 +1,5 @@
 pub mod WordLemmas
+pub mod PlacedLemmas
 pub mod MasterLemmas
 pub mod ReadingLemmas
 pub mod FileLemmas

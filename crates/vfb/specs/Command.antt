@@ -1,7 +1,9 @@
 -- What the words of a call ask for. 64 is the sign @, and 44 the comma.
-use Rattle.std.specs.Prelude.{ℕ, ℤ, Bool, false, ◌&&◌, List, [], ◌∷◌, length, codes, ◌==◌, nat_eq, nat_le, bytes_eq, Option, Some, None, if◌then◌else◌}
+use Rattle.std.specs.Prelude.{ℕ, ℤ, pos, negsuc, int_le, Bool, false, ◌&&◌, List, [], ◌∷◌, length, codes, ◌==◌, nat_eq, nat_le, bytes_eq, Option, Some, None, Result, Ok, Err, if◌then◌else◌}
 use Rattle.std.specs.List.{list_all, slice_split}
 use Rattle.std.specs.Path.{rsplit_once}
+use Rattle.fixpoint.specs.DecimalText.{whole_of}
+use Rattle.fixpoint.specs.declared.decimal.NumberFault.{NumberFault}
 
 -- a drawing's file, and where in the design space it stands: one normalised coordinate an axis
 pub record Placed : Type 0 where
@@ -24,9 +26,14 @@ abbrev pub each_of : {A B : Type 0} → (A → Option B) → List A → Option (
 each_of f [] = Some []
 each_of f (x ∷ xs) = f x >>= λ y. each_of f xs >>= λ ys. Some (y ∷ ys)
 
--- a normalised coordinate, from -1 to 1 in F2DOT14
+-- a number from -16384 to 16384
+abbrev pub coordinate_by : Result ℤ NumberFault → Option ℤ
+coordinate_by (Ok raw) = if int_le (negsuc 16383) raw && int_le raw (pos 16384) then Some raw else None
+coordinate_by (Err _) = None
+
+-- a coordinate from -1 to 1 in F2DOT14, as a whole number
 unfoldable pub coordinate_of : List ℕ → Option ℤ
-coordinate_of text = None
+coordinate_of text = coordinate_by (whole_of text)
 
 -- coordinates of at most eight axes, with commas between them
 unfoldable pub place_of : List ℕ → Option (List ℤ)

@@ -1,13 +1,12 @@
 -- What making the masters and the data of a command's glyph answers.
-use Rattle.std.specs.Prelude.{◌≡◌, ◌≤◌, List, length, Result, Ok, Err, true}
-use Rattle.std.specs.List.{AllByRecursion}
-use Rattle.outside.specs.Reading.{GivesBy}
+use Rattle.std.specs.Prelude.{◌≡◌, ◌≤◌, List, length, All, Result, Ok, Err}
 use Rattle.outside.specs.declared.fault.Fault.{Fault}
 use Rattle.region_support.specs.Places.{places_of}
-use Rattle.region_support.specs.Regions.{IsNormalised}
-use Rattle.vfb.specs.Command.{Placed, are_on_axes}
+use Rattle.region_support.specs.MasterOrder.{axes_of}
+use Rattle.region_support.specs.Regions.{AreNormalisedPlaces}
+use Rattle.vfb.specs.Command.{Placed}
 use Rattle.vfb.specs.Lines.{counts_line}
-use Rattle.vfb.specs.Masters.{Masters}
+use Rattle.vfb.specs.Masters.{Masters, places_of_drawings}
 use Rattle.vfb.specs.Glyph.{Made, IsMadeOf, IsDrawnBy}
 use Rattle.vfb.specs.Stops.{StopsBy}
 use Rattle.vfb.specs.declared.drawings.ReadStop.{ReadStop}
@@ -27,9 +26,10 @@ abbrev pub Makes : Result Masters Fault → Result GlyphData ReadStop → Type 0
 Makes reading (Ok glyph) = (masters : Masters) × (reading ≡ Ok masters) × IsMadeOf masters (made glyph) × IsDrawnBy masters glyph.bytes.items
 Makes reading (Err stop) = StopsBy stop reading
 
--- 1 to 128 drawings at places of as many axes, each coordinate from -1 to 1
+-- At most 128 drawings, at places of as many axes, 1 to 8, with coordinates from -1 to 1.
 pub record ArePlaced (drawings : List Placed) : Type 0 where
-  pub on_axes : are_on_axes drawings ≡ true
+  pub some_axes : 1 ≤ axes_of (places_of_drawings drawings)
+  pub few_axes : axes_of (places_of_drawings drawings) ≤ 8
   pub few : length drawings ≤ 128
-  pub axes : AllByRecursion (λ (placed : Placed). (1 ≤ length placed.at) × (length placed.at ≤ 8)) drawings
-  pub normalised : AllByRecursion (λ (placed : Placed). AllByRecursion IsNormalised placed.at) drawings
+  pub same_axes : All (λ (placed : Placed). length placed.at ≡ axes_of (places_of_drawings drawings)) drawings
+  pub normalised : AreNormalisedPlaces (places_of_drawings drawings)

@@ -13,8 +13,8 @@ use Rattle.glif.specs.declared.shape.Drawing.{Drawing}
 use Rattle.region_support.specs.MasterOrder.{AreMasters, axes_of}
 use Rattle.region_support.specs.Sorting.{model_fault, order_of, places_at}
 use Rattle.region_support.specs.Regions.{regions_of, AreNormalisedPlaces}
-use Rattle.region_support.specs.declared.order.ModelStop.{ModelStop}
-use Rattle.region_support.specs.declared.order.ModelStop.TheVariants as model
+use Rattle.region_support.specs.declared.sorting.ModelStop.{ModelStop}
+use Rattle.region_support.specs.declared.sorting.ModelStop.TheVariants as model
 use Rattle.delta_solve.specs.Outlines.{contour_kinds}
 use Rattle.delta_solve.specs.GlyphModels.{AreAlike, delta_fault}
 use Rattle.delta_solve.specs.declared.model.DeltaStop.{DeltaStop}

@@ -1,9 +1,11 @@
-ghost use Rattle.std.specs.Prelude.{◌≡◌, ◌<◌, length, map, All, IfOk};
+ghost use Rattle.std.specs.Prelude.{◌≡◌, ◌<◌, ◌≤◌, length, map, All, IfOk};
 ghost use Rattle.outside.specs.Reading.{GivesBy};
 ghost use Rattle.glif.specs.Limits.{IsWithinLimits};
 ghost use Rattle.glif.specs.declared.shape.Drawing.{Drawing};
+ghost use Rattle.arrayvec.specs.ArrayVec.{array_vec_len};
+ghost use Rattle.region_support.specs.MasterOrder.{axes_of};
 ghost use Rattle.region_support.specs.Places.{places_of};
-ghost use Rattle.region_support.specs.Sorting.{IsOrder, places_at};
+ghost use Rattle.region_support.specs.Sorting.{IsOrder};
 ghost use Rattle.vfb.specs.Making.{ArePlaced, shown};
 ghost use Rattle.vfb.specs.Masters.{AreGathered, drawing_numbered, gathered, masters_in, ordered, place_fault, places_of_drawings};
 ghost use Rattle.vfb.specs.Stops.{Refuses, StopsBy, IsReadFrom, NeverFails};
@@ -14,7 +16,7 @@ use crate::drawings::ReadStop;
 use crate::words::Placed;
 use glif::{Drawing, Outline, Point};
 use outside::{Fault, Kind, Name, NoMemory, Seq, Spot};
-use region_support::Location;
+use region_support::{Location, ModelStop, in_order, order};
 use std::alloc::Global;
 
 /// The masters of a glyph in their order, the default first.
@@ -74,24 +76,21 @@ fn places_of(alloc: Global, placed: &[Placed<'_>]) -> Result<Seq<Location>, NoMe
 }
 
 /// The numbers of the drawings at these places, in the order of masters.
-fn ordered<'a>(_alloc: Global, _places: &Seq<Location>) -> Result<Seq<u32>, ReadStop<'a>>
-    ensures order { IsReadFrom (ordered (places_of _places.now)) result }
+fn ordered<'a>(alloc: Global, places: &Seq<Location>) -> Result<Seq<u32>, ReadStop<'a>>
+    requires lengths { All (λ at. array_vec_len at ≡ axes_of (places_of places.now)) places.now }
+    requires few { length places.now ≤ 128 }
+    ensures order { IsReadFrom (ordered (places_of places.now)) result }
     ensures never { NeverFails result }
-    ensures is_order { IfOk result (IsOrder (places_of _places.now)) }
+    ensures masters { IfOk result (IsOrder (places_of places.now)) }
 {
-    Err(ReadStop::NoMemory)
-}
-
-/// The places of these numbers, in their order.
-fn places_in(alloc: Global, places: &[Location], order: &[u32]) -> Result<Seq<Location>, NoMemory>
-    requires { All (λ number. number < length places.now) order.now }
-    ensures { IfOk result (λ sorted. places_of sorted ≡ places_at (places_of places.now) order.now) }
-{
-    let mut sorted = Vec::new(alloc);
-    for number in order {
-        sorted.push(copy_place(&places[*number as usize])?)?;
+    match order(alloc, places) {
+        Ok(order) => Ok(order),
+        Err(ModelStop::NoDefault) => Err(refuse_places(alloc, Kind::NoDefaultSource, 0, 0)),
+        Err(ModelStop::SameLocation(first, second)) => {
+            Err(refuse_places(alloc, Kind::SameLocation, first, second))
+        }
+        Err(ModelStop::NoMemory) => Err(ReadStop::NoMemory),
     }
-    Ok(Seq::from_vec(sorted))
 }
 
 /// An equal outline of its own.
@@ -127,19 +126,20 @@ fn outlines_in(
 /// The masters that the drawings at these places are, in their order.
 fn masters_in(
     alloc: Global,
-    places: &[Location],
+    places: &Seq<Location>,
     drawings: &[Drawing],
-    order: &[u32],
+    order: &Seq<u32>,
 ) -> Result<Masters, NoMemory>
-    requires some { 0 < length order.now }
     requires one_each { length drawings.now ≡ length places.now }
-    requires numbers { All (λ number. number < length places.now) order.now }
+    requires order { IsOrder (places_of places.now) order.now }
     ensures { IfOk result (λ masters. shown masters ≡ masters_in (places_of places.now) drawings.now order.now) }
 {
+    let locations = in_order(alloc, places, order)?;
+    let numbers = order.as_slice();
     Ok(Masters {
-        name: drawings[order[0] as usize].name.try_copy(alloc)?,
-        locations: places_in(alloc, places, order)?,
-        outlines: outlines_in(alloc, drawings, order)?,
+        name: drawings[numbers[0] as usize].name.try_copy(alloc)?,
+        locations,
+        outlines: outlines_in(alloc, drawings, numbers)?,
     })
 }
 
@@ -165,13 +165,12 @@ pub(crate) fn gather<'a>(
         Ok(order) => order,
         Err(stop) => return Err(stop),
     };
-    let order = order.as_slice();
-    let default = &drawings[order[0] as usize].outline;
+    let default = &drawings[order.as_slice()[0] as usize].outline;
     match all_alike(alloc, default, placed, drawings) {
         Ok(()) => {}
         Err(stop) => return Err(stop),
     }
-    match masters_in(alloc, places.as_slice(), drawings, order) {
+    match masters_in(alloc, &places, drawings, &order) {
         Ok(masters) => Ok(masters),
         Err(NoMemory) => Err(ReadStop::NoMemory),
     }

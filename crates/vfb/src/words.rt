@@ -4,7 +4,7 @@ ghost use Rattle.vfb.specs.Command.{coordinate_of, place_of, placed_of, are_on_a
 ghost use Rattle.vfb.specs.Words.{seen, asked};
 
 use arrayvec::ArrayVec;
-use fixpoint::Fix;
+use fixpoint::{Fix, parse_whole};
 use region_support::Location;
 
 /// A drawing that the words name.
@@ -25,11 +25,15 @@ pub(crate) struct Command<'a> {
     pub(crate) drawings: ArrayVec<Placed<'a>, 128>,
 }
 
-/// A coordinate from -1 to 1 in F2DOT14, by a whole number from -16,384 to 16,384.
-fn coordinate_of(_text: &str) -> Option<Fix<14>>
-    ensures { result ≡ coordinate_of _text.now }
+/// A coordinate from -1 to 1 in F2DOT14, as a whole number from -16,384 to 16,384.
+#[tactic(auto, unfolding(crate::specs::Command::coordinate_of))]
+fn coordinate_of(text: &str) -> Option<Fix<14>>
+    ensures { result ≡ coordinate_of text.now }
 {
-    None
+    match parse_whole(text) {
+        Ok(raw) if -16_384 <= raw && raw <= 16_384 => Some(Fix::from_raw(raw)),
+        _ => None,
+    }
 }
 
 /// Adds a coordinate to a place of fewer than eight.
