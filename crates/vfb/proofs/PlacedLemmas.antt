@@ -1,9 +1,10 @@
 -- What holds of the drawings that words name.
-use Rattle.std.proofs.Common.{◌≡◌, ℕ, zero, suc, ℤ, pos, negsuc, neg_ℤ, ◌+◌, ◌<◌, ◌≤◌, ◌≤ℤ◌, Bool, true, false, List, [], ◌∷◌, length, map, codes, get_or, Option, Some, None, Result, Ok, Err, refl, sym, ◌∙◌, ap, subst, arith, if◌then◌else◌, nat_le, nat_eq, ◌&&◌, All}
-use Rattle.std.specs.Prelude.{IfSome, int_le, bytes_eq, ◌==◌}
-use Rattle.std.specs.List.{AllByRecursion, list_all, slice_split}
-use Rattle.std.proofs.lemmas.Bool.{and_parts, leb-le}
-use Rattle.std.proofs.lemmas.Bool.Decides.{Decides-int_le, Decides-eqb}
+use Rattle.std.proofs.Common.{◌≡◌, ℕ, zero, suc, ℤ, pos, negsuc, neg_ℤ, ◌+◌, ◌<◌, ◌≤◌, Bool, true, false, List, [], ◌∷◌, length, map, codes, get_or, Option, Some, None, Result, Ok, Err, refl, sym, ◌∙◌, ap, subst, arith, if◌then◌else◌, nat_le, nat_eq, ◌&&◌, All}
+use Rattle.std.specs.Prelude.{IfSome, int_le, T, ◌≤ℤ◌, bytes_eq, ◌==◌}
+use Rattle.std.specs.List.{AllByRecursion, list_all, slice_split, count_by}
+use Rattle.std.specs.Path.{rsplit_once}
+use Rattle.std.proofs.lemmas.Bool.{and_parts, eqb-true, leb-true}
+use Rattle.std.proofs.lemmas.List.Sums.{AllPass-from_list_all}
 use Rattle.std.proofs.lemmas.List.Splits.{length-slice_split}
 use Rattle.fixpoint.specs.DecimalText.{whole_of}
 use Rattle.fixpoint.specs.declared.decimal.NumberFault.{NumberFault}
@@ -36,10 +37,13 @@ each_count f (x ∷ xs) = one_more (length xs) (f x) (each_of f xs) (each_count 
 
 -- ---- coordinates and places
 
+int_le_true : (a b : ℤ) → int_le a b ≡ true → a ≤ℤ b
+int_le_true a b is = record { le = subst T (sym is) tt }
+
 normalised_if : (raw : ℤ) (test : Bool) → (int_le (negsuc 16383) raw && int_le raw (pos 16384)) ≡ test → IfSome (if test then Some raw else None) IsNormalised
 normalised_if raw true is =
     let parts = and_parts (int_le (negsuc 16383) raw) (int_le raw (pos 16384)) is in
-    ((Decides-int_le (negsuc 16383) raw).0 parts.0, (Decides-int_le raw (pos 16384)).0 parts.1)
+    (int_le_true (negsuc 16383) raw parts.0, int_le_true raw (pos 16384) parts.1)
 normalised_if raw false is = tt
 
 normalised_by : (found : Result ℤ NumberFault) → IfSome (coordinate_by found) IsNormalised
@@ -62,10 +66,84 @@ place_if None n count normalised = tt
 place_if (Some at) n count normalised = choose (nat_le (length at) 8) refl
   where
     choose : (test : Bool) → nat_le (length at) 8 ≡ test → IfSome (if test then Some at else None) IsPlace
-    choose true is = record { some = omega (arith, count); few = leb-le (length at) 8 is; normalised = normalised }
+    choose true is = record { some = omega (arith, count); few = leb-true (length at) 8 is; normalised = normalised }
     choose false is = tt
 
 place_is : (text : List ℕ) → IfSome (place_of text) IsPlace
 unfolding place_of
 place_is text =
-    place_if (each_of coordinate_of (slice_split (λ b. b == 44) text)) _ ? (each_such IsNormalised coordinate_of coordinate_normalised (slice_split (λ b. b == 44) text))
+    let parts = slice_split (λ b. b == 44) text in
+    place_if (each_of coordinate_of parts) (count_by (λ b. b == 44) text)
+    (subst (λ n. IfSome (each_of coordinate_of parts) (λ at. length at ≡ n)) (length-slice_split (λ b. b == 44) text ∙ omega arith) (each_count coordinate_of parts))
+    (each_such IsNormalised coordinate_of coordinate_normalised parts)
+
+-- ---- drawings
+
+abbrev IsPlaced : Placed → Type 0
+IsPlaced placed = IsPlace placed.at
+
+placed_by : (path : List ℕ) (found : Option (List ℤ)) → IfSome found IsPlace → IfSome (found >>= λ at. Some (record { path = path; at = at })) IsPlaced
+placed_by path None is = tt
+placed_by path (Some at) is = is
+
+placed_of_parts : (parts : Option (List ℕ × List ℕ)) → IfSome (parts >>= λ parts. place_of parts.1 >>= λ at. Some (record { path = parts.0; at = at })) IsPlaced
+placed_of_parts None = tt
+placed_of_parts (Some parts) = placed_by parts.0 (place_of parts.1) (place_is parts.1)
+
+placed_is : (word : List ℕ) → IfSome (placed_of word) IsPlaced
+unfolding placed_of
+placed_is word = placed_of_parts (rsplit_once 64 word)
+
+all_normalised : (drawings : List Placed) → AllByRecursion IsPlaced drawings → AreNormalisedPlaces (places_of_drawings drawings)
+all_normalised [] each = tt
+all_normalised (placed ∷ more) each = (each.0.normalised, all_normalised more each.1)
+
+same_axes : (first : Placed) (more : List Placed) → are_on_axes (first ∷ more) ≡ true → All (λ (placed : Placed). length placed.at ≡ length first.at) (first ∷ more)
+same_axes first more on_axes zero d below = refl
+same_axes first more on_axes (suc k) d below =
+    eqb-true (length (get_or more k d).at) (length first.at) (AllPass-from_list_all (λ (placed : Placed). nat_eq (length placed.at) (length first.at)) more on_axes k d (omega arith))
+
+are_placed : (drawings : List Placed) → AllByRecursion IsPlaced drawings → length drawings ≤ 128 → are_on_axes drawings ≡ true → ArePlaced drawings
+are_placed [] each few on_axes = absurd cc
+are_placed (first ∷ more) each few on_axes = record {
+  some_axes = each.0.some;
+  few_axes = each.0.few;
+  few = few;
+  same_axes = same_axes first more on_axes;
+  normalised = all_normalised (first ∷ more) each;
+}
+
+named_if : (found : Option (List Placed)) → IfSome found (AllByRecursion IsPlaced)
+    → IfSome (found >>= λ drawings. if nat_le (length drawings) 128 && are_on_axes drawings then Some drawings else None) ArePlaced
+named_if None each = tt
+named_if (Some drawings) each = choose (nat_le (length drawings) 128 && are_on_axes drawings) refl
+  where
+    choose : (test : Bool) → (nat_le (length drawings) 128 && are_on_axes drawings) ≡ test → IfSome (if test then Some drawings else None) ArePlaced
+    choose true is =
+        let parts = and_parts (nat_le (length drawings) 128) (are_on_axes drawings) is in
+        are_placed drawings each (leb-true (length drawings) 128 parts.0) parts.1
+    choose false is = tt
+
+-- ---- commands
+
+abbrev pub IsProper : Tuples → Type 0
+IsProper command = ArePlaced command.drawings
+
+tuples_if : (out : List ℕ) (found : Option (List Placed)) → IfSome found ArePlaced → IfSome (found >>= λ drawings. Some (record { out = out; drawings = drawings })) IsProper
+tuples_if out None are = tt
+tuples_if out (Some drawings) are = are
+
+if_proper : (test : Bool) (found : Option Tuples) → IfSome found IsProper → IfSome (if test then found else None) IsProper
+if_proper true found is = is
+if_proper false found is = tt
+
+-- what words ask for is proper
+command_is : (words : List (List ℕ)) → IfSome (command_of words) IsProper
+command_is [] = tt
+command_is (program ∷ []) = tt
+command_is (program ∷ name ∷ []) = tt
+command_is (program ∷ name ∷ out ∷ words) =
+    if_proper (bytes_eq name (codes "tuples")) _ (tuples_if out (drawings_named words) (named_if (each_of placed_of words) (each_such IsPlaced placed_of placed_is words)))
+
+pub proper : (words : List (List ℕ)) (command : Tuples) → Some command ≡ command_of words → ArePlaced command.drawings
+proper words command is = subst (λ found. IfSome found IsProper) (sym is) (command_is words)
