@@ -1,3 +1,4 @@
 pub mod Tuples
 pub mod Layout
+pub mod Table
 pub mod Laws

@@ -1,4 +1,4 @@
-ghost use Rattle.std.specs.Prelude.{◌≡◌, ℕ, ◌+◌, ◌≤◌, List, [], ◌++◌, length, map, IfOk, OnOk};
+ghost use Rattle.std.specs.Prelude.{◌≡◌, ℕ, ◌+◌, ◌*◌, ◌≤◌, List, [], ◌++◌, length, map, IfOk, OnOk};
 ghost use Rattle.variation_rules.specs.TupleVariations.{MeansTuples, PacksTuples, header_bytes};
 ghost use Rattle.variation_rules.specs.declared.tuple.TupleVariation.{TupleVariation};
 ghost use Rattle.gvar_table.specs.Layout.{AddsTuple, IsWritten};
@@ -18,7 +18,7 @@ const FRONT: u16 = 4;
 /// points, 4 to 4,004 with the four phantom points. There are at most 127 tuples; each has one triple an axis, of
 /// F2DOT14 coordinates from -1 to 1, points below `count` that rise, and for each of them a delta whose numbers
 /// are of 16 bits. Every peak is embedded and every tuple has its own points; packed lists are in maximal runs.
-/// Without tuples there are no bytes.
+/// Without tuples there are no bytes, and otherwise at most 4 and 23 for each point and tuple.
 pub fn glyph_data(
     alloc: Global,
     axes: u32,
@@ -29,6 +29,7 @@ pub fn glyph_data(
     ensures written { IfOk result (λ bytes. IsWritten count bytes.items (map variation_of tuples.now)) }
     ensures means { IfOk result (λ bytes. MeansTuples axes count [] bytes.items (map variation_of tuples.now)) }
     ensures packs { IfOk result (λ bytes. PacksTuples axes count [] bytes.items (map variation_of tuples.now)) }
+    ensures short { IfOk result (λ bytes. length bytes.items ≤ 4 + 23 * (count * length tuples.now)) }
     ensures only { IfOk result (λ bytes. (others : List TupleVariation) → MeansTuples axes count [] bytes.items others → others ≡ map variation_of tuples.now) }
 {
     let tuples = tuples.as_slice();

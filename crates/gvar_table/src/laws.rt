@@ -1,6 +1,7 @@
-ghost use Rattle.gvar_table.specs.Laws.{OneSpelling};
+ghost use Rattle.gvar_table.specs.Laws.{OneSpelling, OneTable};
 
-/// Tuples have one spelling: the bytes that `glyph_data` writes are the only such bytes.
+/// Tuples have one spelling: the bytes that `glyph_data` and `table` write are the only such bytes.
 pub fn one_spelling()
-    ensures { OneSpelling }
+    ensures glyph { OneSpelling }
+    ensures table { OneTable }
 {}

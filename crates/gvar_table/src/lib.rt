@@ -2,14 +2,20 @@
 //! chapters "gvar" and "Font variations common table formats" (tuple variation stores).
 #![tactic(auto)]
 
+#[cfg(test)]
+mod conditions;
 mod glyph;
+#[cfg(test)]
+mod glyph_tests;
+mod glyphs;
 mod header;
 mod laws;
 mod part;
 #[cfg(test)]
-mod tests;
+mod table_tests;
 mod tuple;
 
 pub use glyph::glyph_data;
+pub use glyphs::table;
 pub use laws::one_spelling;
 pub use tuple::Tuple;

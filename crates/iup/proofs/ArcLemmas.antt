@@ -88,6 +88,11 @@ arc_from_step points deltas s a b size reach =
     spans_same points deltas (s + a) ((s + a) % length points) (b - a) size (sym (mod-mod (s + a) (length points)))
     (subst (λ x. Spans points deltas (s + a) x) end reach.spans)
 
+pub arc_from_place : (points deltas : List Pair) (a b : ℕ) → length deltas ≡ length points → Reaches points deltas a b → Arc points deltas (a % length points) (b - a)
+arc_from_place points deltas a b size reach =
+    let ahead = reach.ahead in
+    spans_same points deltas a (a % length points) (b - a) size (sym (mod-mod a (length points))) (spans_to points deltas a b (omega arith) reach.spans)
+
 pub step_from_arc : (points deltas : List Pair) (u k : ℕ) → length deltas ≡ length points → 0 < k → k ≤ length points → Arc points deltas (u % length points) k → Reaches points deltas u (u + k)
 step_from_arc points deltas u k size some few arc = record {
   ahead = omega arith;

@@ -32,6 +32,7 @@ pub record IsRightRow (points deltas : List Pair) (m s : ℕ) (row : List ℕ) :
 
 -- the numbers are the least numbers of arcs from s to each place of the round
 pub record IsLeastRow (points deltas : List Pair) (s : ℕ) (row : List ℕ) : Type 0 where
+  pub size : length row ≡ length points + 1
   pub leads : (b : ℕ) → b ≤ length points → Path (Reaches points deltas) s (s + b) (slice_index row b)
   pub least : (b k : ℕ) → b ≤ length points → Path (Reaches points deltas) s (s + b) k → slice_index row b ≤ k
 

@@ -11,7 +11,7 @@ use Rattle.variation_rules.specs.declared.runs.DeltaClass.{DeltaClass}
 use Rattle.variation_rules.specs.declared.runs.DeltaClass.TheVariants.{Zeros, Bytes, Words}
 use Rattle.packed.specs.FirstRun.{GoesOn, BeginsWithRun}
 use Rattle.packed.proofs.FirstRun.{AreOwn}
-use Rattle.packed.proofs.RunLists.{IsWholeRun, AreLong, AreWhole, all_of_both, long_in_front}
+use Rattle.packed.proofs.RunLists.{AreLong, AreWhole, all_of_both, long_in_front}
 
 -- the class and the values of a run
 abbrev pub class : DeltaRun → DeltaClass

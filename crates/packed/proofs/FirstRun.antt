@@ -1,5 +1,5 @@
 -- The longest run of one class that begins a list, by the number of first values in that class.
-use Rattle.std.proofs.Common.{◌≡◌, ℕ, ◌<◌, ◌≤◌, List, [], ◌∷◌, length, take, drop, get_or, All, Bool, true, false, refl, sym, ap, subst, ◌∙◌, inl, inr, arith, length-take, drop-cons}
+use Rattle.std.proofs.Common.{◌≡◌, ℕ, ◌<◌, ◌≤◌, List, length, take, drop, get_or, All, Bool, true, false, refl, sym, ap, subst, ◌∙◌, inl, inr, arith, length-take, drop-cons}
 use Rattle.std.specs.List.{prefix_len}
 use Rattle.std.proofs.lemmas.List.{take-append-drop, get_or-take, drop_all}
 use Rattle.std.proofs.lemmas.List.Sums.{prefix_len-le-length, prefix_len_passes, prefix_len_stops}

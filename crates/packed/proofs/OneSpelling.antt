@@ -1,6 +1,5 @@
 -- A list of deltas, and a list of points, are packed in maximal runs in one way.
-use Rattle.std.proofs.Common.{◌≡◌, ℕ, ℤ, ◌+◌, ◌/◌, ◌%◌, ◌<◌, ◌≤◌, inl, inr, List, [], ◌∷◌, ◌++◌, length, refl, sym, ap, ◌∙◌, arith}
-use Rattle.std.proofs.lemmas.Bool.{cases_lt}
+use Rattle.std.proofs.Common.{◌≡◌, ℕ, ℤ, ◌+◌, ◌<◌, inl, inr, List, [], ◌∷◌, ◌++◌, length, refl, sym, ap, ◌∙◌, arith}
 use Rattle.variation_rules.specs.PackedDeltas.{DeltaRun, PacksDeltas, class_of_delta, delta_bytes}
 use Rattle.variation_rules.specs.PackedPoints.{PointRun, IsCount, PacksListedPoints, class_of_difference, point_bytes, points_after}
 use Rattle.packed.proofs.RunLists.{same_bytes}

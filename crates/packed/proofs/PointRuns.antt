@@ -1,5 +1,5 @@
 -- Packed points: their differences, a run in front of packed ones, the count, and how many bytes they take.
-use Rattle.std.proofs.Common.{◌≡◌, ℕ, ◌+◌, ◌-◌, ◌*◌, ◌/◌, ◌%◌, ◌^◌, ◌<◌, ◌≤◌, ◌⊎◌, inl, inr, List, [], ◌∷◌, ◌++◌, length, get_or, All, refl, sym, ap, subst, ◌∙◌, arith, length-append, append_assoc}
+use Rattle.std.proofs.Common.{◌≡◌, ℕ, ◌+◌, ◌*◌, ◌^◌, ◌<◌, ◌≤◌, inl, inr, List, [], ◌∷◌, ◌++◌, length, get_or, All, refl, sym, ap, subst, ◌∙◌, arith, length-append, append_assoc}
 use Rattle.std.proofs.lemmas.List.{append-nil}
 use Rattle.std.specs.List.{flat_map}
 use Rattle.std.proofs.lemmas.List.Elements.{All-head, All-tail, All-cons, All-nil}
@@ -11,7 +11,7 @@ use Rattle.variation_rules.specs.declared.runs.PointClass.TheVariants.{Bytes, Wo
 use Rattle.packed.specs.Differences.{PacksDifferences, AddsDifferences, count_bytes}
 use Rattle.packed.specs.FirstRun.{GoesOn, BeginsWithRun}
 use Rattle.packed.proofs.FirstRun.{AreOwn}
-use Rattle.packed.proofs.RunLists.{IsWholeRun, AreLong, AreWhole, all_of_both, long_in_front}
+use Rattle.packed.proofs.RunLists.{AreLong, AreWhole, all_of_both, long_in_front}
 
 -- the class and the differences of a run
 abbrev pub class : PointRun → PointClass
@@ -135,7 +135,7 @@ short_count : (count : ℕ) → count < 128 → length (count_bytes count) ≡ 1
 short_count count short = grind arith
 
 count_length : (count : ℕ) → length (count_bytes count) ≤ 2
-count_length count = elim (cases_lt count 128) [ | inl short ↦ grind arith | inr long ↦ grind arith ]
+count_length count = elim (cases_lt count 128) [ inl short ↦ grind arith | inr long ↦ grind arith ]
 
 -- the count and the packed differences stand for the points, whatever the number of points that the glyph has
 pub listed : (total : ℕ) (points differences counts bytes : List ℕ) → 0 < length points → length points ≤ 4004 → RisesWithin 0 total points → points ≡ points_after 0 differences → counts ≡ count_bytes (length points) → AddsDifferences counts bytes differences → PacksListedPoints total bytes points
@@ -162,3 +162,13 @@ pub listed_length : (points differences counts bytes : List ℕ) → points ≡ 
 listed_length points differences counts bytes leads count adds =
     let packs = adds.packs in
     omega (arith, ap length adds.behind, length-append counts adds.added, ap length count, count_length (length points), ap length leads, points_length 0 differences, ap length packs.spelled, ap length packs.meant, runs_length packs.runs packs.each)
+
+is_count_length : (count : ℕ) (bytes : List ℕ) → IsCount count bytes → length bytes ≤ 2
+is_count_length count bytes (inl short) = omega (arith, ap length short.1)
+is_count_length count bytes (inr long) = omega (arith, ap length long.1)
+
+-- any packed points in maximal runs do so
+pub packed_points_length : (total : ℕ) (bytes points : List ℕ) → PacksListedPoints total bytes points → length bytes ≤ 2 + 3 * length points
+packed_points_length total bytes points packed =
+    let are = packed.are in
+    omega (arith, ap length are.spelled, length-append are.count_bytes (bytes_of are.runs), is_count_length (length points) are.count_bytes are.count, ap length are.meant, points_length 0 (differences_of are.runs), runs_length are.runs are.each)

@@ -4,7 +4,7 @@
 use Rattle.std.proofs.Common.{◌≡◌, ℕ, ◌<◌, ◌≤◌, List, [], ◌∷◌, ◌++◌, length, All, refl, sym, ap, subst, ◌∙◌, arith, length-append}
 use Rattle.std.specs.List.{flat_map}
 use Rattle.std.proofs.lemmas.List.Elements.{All-head, All-tail, All-cons, All-nil}
-use Rattle.packed.specs.FirstRun.{GoesOn, BeginsWithRun}
+use Rattle.packed.specs.FirstRun.{GoesOn}
 use Rattle.packed.proofs.FirstRun.{AreOwn}
 
 -- what holds of each value of two joined lists holds of each value of the one and of the other

@@ -197,6 +197,14 @@ same_lengths axes locations masters = lengths_after axes locations [] locations 
 is_zero_tells : (v : ℤ) → is_zero v ≡ true → v ≡ pos 0
 is_zero_tells v zero = grind (arith, ints)
 
+-- and there is one region for each location
+count_after : (all earlier later : List (List ℤ)) → length (regions_after all earlier later) ≡ length later
+count_after all earlier [] = refl
+count_after all earlier (at ∷ later) = ap (λ (n : ℕ). suc n) (count_after all (earlier ++ (at ∷ [])) later)
+
+pub regions_count : (locations : List (List ℤ)) → length (regions_of locations) ≡ length locations
+regions_count locations = count_after locations [] locations
+
 -- the region of the default has no axis, and so is whole everywhere
 default_leaves : (all : List (List ℤ)) (axis : ℕ) (default at : List ℤ) (s : ℤ) → is_default default ≡ true → scalar_from s (first_from all axis default) at ≡ s
 default_leaves all axis [] at s none = refl

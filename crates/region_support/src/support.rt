@@ -59,6 +59,7 @@ pub fn boxes(alloc: Global, sorted: &Seq<Location>) -> Result<Seq<Support>, NoMe
     requires masters { AreMasters (axes_of (places_of sorted.now)) (places_of sorted.now) }
     requires few { length sorted.now ≤ 128 }
     ensures value { IfOk result (λ supports. regions_in supports ≡ regions_of (places_of sorted.now)) }
+    ensures count { IfOk result (λ supports. length supports ≡ length sorted.now) }
     ensures lengths { IfOk result (λ supports. All (λ support. array_vec_len support ≡ axes_of (places_of sorted.now)) supports) }
     ensures triangular { IfOk result (λ supports. AreTriangular (regions_in supports) (places_of sorted.now)) }
     ensures default { IfOk result (λ supports. FirstIsWhole (regions_in supports)) }

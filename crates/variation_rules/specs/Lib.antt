@@ -2,6 +2,7 @@ pub mod Fields
 pub mod PackedDeltas
 pub mod PackedPoints
 pub mod TupleVariations
+pub mod VariationsTable
 pub mod Scalar
 pub mod InferredDelta
 pub mod DrawnOutline

@@ -4,6 +4,7 @@ use Rattle.variation_rules.specs.Fields.{word}
 use Rattle.variation_rules.proofs.DecodingGlyph.{means_one}
 use Rattle.gvar_table.specs.Tuples.{IsTupleOf}
 use Rattle.gvar_table.proofs.GlyphLemmas.{all_written, data_spelled, means, next_header, next_tuple, packs}
+use Rattle.gvar_table.proofs.SizeLemmas.{written_length}
 use Rattle.gvar_table.proofs.glyph.glyph_data.Goals as goal
 
 pub loop-tuple-preserved : goal.loop-tuple-preserved
@@ -39,3 +40,6 @@ returns-clause-packs c = packs _ _ _ _ c.requires (returns-clause-written c)
 
 pub returns-clause-only : goal.returns-clause-only
 returns-clause-only c = λ others read. means_one _ _ _ _ _ _ read (returns-clause-means c)
+
+pub returns-clause-short : goal.returns-clause-short
+returns-clause-short c = written_length _ _ _ _ c.requires (returns-clause-written c)

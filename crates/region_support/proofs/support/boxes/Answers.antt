@@ -1,13 +1,13 @@
 use Rattle.std.proofs.Common.{◌≡◌, ◌≤◌, ◌++◌, ℕ, ℤ, List, [], ◌∷◌, length, take, drop, append-nil, sym, ◌∙◌, ap, subst, arith}
 use Rattle.std.specs.List.{AllByRecursion}
-use Rattle.std.proofs.lemmas.List.{drop_all}
+use Rattle.std.proofs.lemmas.List.{drop_all, length-map}
 use Rattle.std.proofs.lemmas.List.Elements.{All-from_recursion}
 use Rattle.arrayvec.specs.ArrayVec.{ArrayVec, array_vec_len}
 use Rattle.variation_rules.specs.declared.region.Triple.{Triple}
 use Rattle.region_support.specs.MasterOrder.{axes_of}
 use Rattle.region_support.specs.Places.{places_of, regions_in}
 use Rattle.region_support.specs.Regions.{regions_after, regions_of, AreTriangular, FirstIsWhole, AreNoneIfIgnored, AreNormalisedRegions}
-use Rattle.region_support.proofs.RegionLaw.{own_one_later_nothing, none_if_ignored, same_lengths, first_is_whole}
+use Rattle.region_support.proofs.RegionLaw.{own_one_later_nothing, none_if_ignored, same_lengths, first_is_whole, regions_count}
 use Rattle.region_support.proofs.RangeLemmas.{regions_normalised}
 use Rattle.region_support.proofs.support.boxes.Goals as goal
 
@@ -22,6 +22,12 @@ value_of supports masters sorted index ended whole same =
 support_lengths : (axes : ℕ) (supports : List (ArrayVec Triple)) → AllByRecursion (λ region. length region ≡ axes) (regions_in supports) → AllByRecursion (λ support. array_vec_len support ≡ axes) supports
 support_lengths axes [] each = tt
 support_lengths axes (support ∷ supports) each = (each.0, support_lengths axes supports each.1)
+
+pub returns-clause-count : goal.returns-clause-count
+returns-clause-count c =
+    let places = places_of c.args.sorted.now in
+    let value : regions_in c.loop-index.supports ≡ regions_of places = value_of c.loop-index.supports c.as_slice-masters.result.now c.args.sorted.now c.loop-index.index (omega arith) c.loop-index.invariant c.as_slice-masters.ensures in
+    sym (length-map c.loop-index.supports (λ (support : ArrayVec Triple). support.items)) ∙ (ap length value ∙ (regions_count places ∙ length-map c.args.sorted.now (λ (at : ArrayVec ℤ). at.items)))
 
 pub returns-clause-lengths : goal.returns-clause-lengths
 returns-clause-lengths c =

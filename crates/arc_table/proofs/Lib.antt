@@ -1,0 +1,6 @@
+mod RayLemmas
+mod NearLemmas
+mod SeenLemmas
+mod FitLemmas
+mod AxisLemmas
+mod TableLemmas

@@ -1,0 +1,3 @@
+pub mod Rays
+pub mod Summaries
+pub mod Table

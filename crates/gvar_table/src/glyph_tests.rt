@@ -1,0 +1,266 @@
+use crate::conditions::are_tuples_of;
+use crate::{Tuple, glyph_data, one_spelling};
+use arrayvec::ArrayVec;
+use fixpoint::{Fix, Pair};
+use outside::{NoMemory, Seq};
+use std::alloc::Global;
+use std::test::*;
+use variation_rules::{Triple, TupleVariation, read_tuples};
+
+/// A tuple: start, peak and end of each axis, and the points, each with its number and its delta.
+pub(crate) struct Plain {
+    pub(crate) region: &'static [(i32, i32, i32)],
+    pub(crate) points: &'static [(u16, i32, i32)],
+}
+
+/// Tuples and their bytes, worked out by hand.
+struct Case {
+    name: &'static str,
+    axes: u16,
+    count: u16,
+    tuples: &'static [Plain],
+    bytes: &'static [u8],
+}
+
+const CASES: [Case; 8] = [
+    Case {
+        name: "no tuples",
+        axes: 1,
+        count: 7,
+        tuples: &[],
+        bytes: &[],
+    },
+    Case {
+        name: "all points, the phantom points don't move",
+        axes: 1,
+        count: 7,
+        tuples: &[Plain {
+            region: &[(0, 16384, 16384)],
+            points: &[
+                (0, 50, 0),
+                (1, 50, 0),
+                (2, 50, 0),
+                (3, 0, 0),
+                (4, 0, 0),
+                (5, 0, 0),
+                (6, 0, 0),
+            ],
+        }],
+        bytes: &[
+            0x00, 0x01, 0x00, 0x0A, 0x00, 0x07, 0xA0, 0x00, 0x40, 0x00, 0x00, 0x02, 0x32, 0x32,
+            0x32, 0x83, 0x86,
+        ],
+    },
+    Case {
+        name: "the second phantom point alone",
+        axes: 1,
+        count: 4,
+        tuples: &[Plain {
+            region: &[(0, 16384, 16384)],
+            points: &[(1, 60, 0)],
+        }],
+        bytes: &[
+            0x00, 0x01, 0x00, 0x0A, 0x00, 0x06, 0xA0, 0x00, 0x40, 0x00, 0x01, 0x00, 0x01, 0x00,
+            0x3C, 0x80,
+        ],
+    },
+    Case {
+        name: "two points of four",
+        axes: 1,
+        count: 8,
+        tuples: &[Plain {
+            region: &[(0, 16384, 16384)],
+            points: &[(0, 0, 0), (1, 50, 0)],
+        }],
+        bytes: &[
+            0x00, 0x01, 0x00, 0x0A, 0x00, 0x08, 0xA0, 0x00, 0x40, 0x00, 0x02, 0x01, 0x00, 0x01,
+            0x80, 0x00, 0x32, 0x81,
+        ],
+    },
+    Case {
+        name: "a negative peak, and deltas of words",
+        axes: 1,
+        count: 5,
+        tuples: &[Plain {
+            region: &[(-16384, -16384, 0)],
+            points: &[(0, -200, 300)],
+        }],
+        bytes: &[
+            0x00, 0x01, 0x00, 0x0A, 0x00, 0x09, 0xA0, 0x00, 0xC0, 0x00, 0x01, 0x00, 0x00, 0x40,
+            0xFF, 0x38, 0x40, 0x01, 0x2C,
+        ],
+    },
+    Case {
+        name: "a region between the default and the end, on the first of two axes",
+        axes: 2,
+        count: 5,
+        tuples: &[Plain {
+            region: &[(0, 8192, 16384), (0, 0, 0)],
+            points: &[(0, 10, -10)],
+        }],
+        // one tuple, headers to 4 + 4 + 4 + 4 + 4 = 20; size 3 + 2 + 2; peaks, starts, ends
+        bytes: &[
+            0x00, 0x01, 0x00, 0x14, 0x00, 0x07, 0xE0, 0x00, 0x20, 0x00, 0x00, 0x00, 0x00, 0x00,
+            0x00, 0x00, 0x40, 0x00, 0x00, 0x00, 0x01, 0x00, 0x00, 0x00, 0x0A, 0x00, 0xF6,
+        ],
+    },
+    Case {
+        name: "a region that ends early, on the second of two axes",
+        axes: 2,
+        count: 5,
+        tuples: &[Plain {
+            region: &[(0, 16384, 16384), (-12288, -8192, -4096)],
+            points: &[(4, 1, 2)],
+        }],
+        bytes: &[
+            0x00, 0x01, 0x00, 0x14, 0x00, 0x07, 0xE0, 0x00, 0x40, 0x00, 0xE0, 0x00, 0x00, 0x00,
+            0xD0, 0x00, 0x40, 0x00, 0xF0, 0x00, 0x01, 0x00, 0x04, 0x00, 0x01, 0x00, 0x02,
+        ],
+    },
+    Case {
+        name: "two tuples, headers first",
+        axes: 1,
+        count: 4,
+        tuples: &[
+            Plain {
+                region: &[(0, 8192, 16384)],
+                points: &[(1, 60, 0)],
+            },
+            Plain {
+                region: &[(0, 16384, 16384)],
+                points: &[(0, 0, 1), (1, 2, 0), (2, 0, 0), (3, 0, 0)],
+            },
+        ],
+        // headers to 4 + 10 + 6 = 20
+        bytes: &[
+            0x00, 0x02, 0x00, 0x14, 0x00, 0x06, 0xE0, 0x00, 0x20, 0x00, 0x00, 0x00, 0x40, 0x00,
+            0x00, 0x08, 0xA0, 0x00, 0x40, 0x00, 0x01, 0x00, 0x01, 0x00, 0x3C, 0x80, 0x00, 0x80,
+            0x00, 0x02, 0x81, 0x00, 0x01, 0x82,
+        ],
+    },
+];
+
+/// The tuple that a plain one tells.
+fn tuple_of(alloc: Global, plain: &Plain) -> Result<Tuple, NoMemory> {
+    let mut support = ArrayVec::new();
+    for &(start, peak, end) in plain.region {
+        if support.len() < 8 {
+            support.push(Triple {
+                start: Fix::from_raw(start),
+                peak: Fix::from_raw(peak),
+                end: Fix::from_raw(end),
+            });
+        }
+    }
+    let mut points = Seq::new(alloc);
+    let mut deltas = Seq::new(alloc);
+    for &(point, x, y) in plain.points {
+        points.push(point)?;
+        deltas.push(Pair { x, y })?;
+    }
+    Ok(Tuple {
+        support,
+        points,
+        deltas,
+    })
+}
+
+/// The tuples that plain ones tell.
+pub(crate) fn tuples_of(alloc: Global, plain: &[Plain]) -> Result<Seq<Tuple>, NoMemory> {
+    let mut tuples = Seq::new(alloc);
+    for tuple in plain {
+        tuples.push(tuple_of(alloc, tuple)?)?;
+    }
+    Ok(tuples)
+}
+
+/// Whether the tuple that was read is the one that was written.
+fn is_same(read: &TupleVariation, written: &Tuple) -> bool {
+    read.region.as_slice() == written.support.as_slice()
+        && read.points.as_slice() == written.points.as_slice()
+        && read.deltas.as_slice() == written.deltas.as_slice()
+}
+
+/// Whether the plain reader finds the tuples in the bytes.
+pub(crate) fn reads_back(
+    alloc: Global,
+    axes: u16,
+    count: u16,
+    tuples: &[Tuple],
+    bytes: &[u8],
+) -> Result<bool, Fail> {
+    let peaks = Seq::new(alloc);
+    let read = read_tuples(alloc, axes, count, &peaks, bytes)?.ok_or("no reading")?;
+    let read = read.as_slice();
+    Ok(
+        read.len() == tuples.len()
+            && read
+                .iter()
+                .zip(tuples)
+                .all(|(read, written)| is_same(read, written)),
+    )
+}
+
+#[test]
+fn bytes_by_hand(rt: HostRuntime) -> Result<(), Fail> {
+    for case in &CASES {
+        let tuples = tuples_of(rt.alloc(), case.tuples)?;
+        let axes = u32::from(case.axes);
+        assert!(rt; are_tuples_of(axes, case.count, tuples.as_slice()));
+        let bytes = glyph_data(rt.alloc(), axes, case.count, &tuples)?;
+        assert_eq!(rt; bytes.as_slice(), case.bytes, "{}", case.name);
+        assert!(rt;
+            reads_back(rt.alloc(), case.axes, case.count, tuples.as_slice(), &bytes)?,
+            "{}",
+            case.name
+        );
+    }
+    Ok(())
+}
+
+/// One tuple that names so many points of 4,004 on eight axes, each with a word in x and in y.
+fn many_points(alloc: Global, count: u16) -> Result<Tuple, NoMemory> {
+    let mut support = ArrayVec::new();
+    for _ in 0..8 {
+        if support.len() < 8 {
+            support.push(Triple {
+                start: Fix::from_raw(0),
+                peak: Fix::from_raw(8192),
+                end: Fix::from_raw(16384),
+            });
+        }
+    }
+    let mut points = Seq::new(alloc);
+    let mut deltas = Seq::new(alloc);
+    for point in 0..count {
+        points.push(point)?;
+        deltas.push(Pair { x: 300, y: -300 })?;
+    }
+    Ok(Tuple {
+        support,
+        points,
+        deltas,
+    })
+}
+
+#[test]
+fn as_many_points_as_there_may_be(rt: HostRuntime) -> Result<(), Fail> {
+    for count in [4003, 4004] {
+        let mut tuples = Seq::new(rt.alloc());
+        tuples.push(many_points(rt.alloc(), count)?)?;
+        assert!(rt; are_tuples_of(8, 4004, tuples.as_slice()));
+        let bytes = glyph_data(rt.alloc(), 8, 4004, &tuples)?;
+        // 4 + 4 + 3 * 16 before the packed part; 63 runs of words for each of x and y; 4,003 points are
+        // listed in two bytes and 32 runs of bytes, 4,004 are all
+        let points = if count == 4003 { 2 + 4003 + 32 } else { 1 };
+        let len = 56 + points + 2 * (2 * usize::from(count) + 63);
+        assert_eq!(rt; bytes.len(), len);
+        assert!(rt; reads_back(rt.alloc(), 8, 4004, tuples.as_slice(), &bytes)?);
+    }
+    Ok(())
+}
+
+#[test]
+fn one_spelling_is_a_law() {
+    one_spelling();
+}

@@ -1,0 +1,5 @@
+pub mod TableLemmas
+pub mod RowLemmas
+pub mod StartLemmas
+pub mod WayLemmas
+pub mod LeastLemmas

@@ -1,0 +1,5 @@
+pub mod Tables
+pub mod Steps
+pub mod Rows
+pub mod Ways
+pub mod LeastSets

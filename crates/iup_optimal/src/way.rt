@@ -1,0 +1,75 @@
+ghost use Rattle.std.specs.Prelude.{◌≡◌, ℕ, ◌+◌, ◌<◌, ◌≤◌, All, IfOk, length};
+ghost use Rattle.variation_rules.specs.InferredDelta.{still};
+ghost use Rattle.iup.specs.Arcs.{IsLeastSet};
+ghost use Rattle.iup_optimal.specs.Rows.{IsRowBack};
+ghost use Rattle.iup_optimal.specs.Steps.{Steps, count};
+ghost use Rattle.iup_optimal.specs.Ways.{IsFewest, IsFirstMember, IsNext, Walks};
+
+use crate::row::{row_back, row_from};
+use crate::table::Table;
+use outside::NoMemory;
+use std::alloc::Global;
+
+/// The least set of a contour, where the least number of arcs that lead round it is known.
+pub fn least_set(alloc: Global, table: &Table<'_>, size: u32) -> Result<Vec<u32>, NoMemory>
+    requires moves { All (λ delta. delta ≡ still) table.now.deltas.now → ⊥ }
+    requires size { IsFewest (Steps table.now) (count table.now) size }
+    ensures set { IfOk result (λ set. IsLeastSet table.now.points.now table.now.deltas.now set.items) }
+    ensures size { IfOk result (λ set. length set.items ≡ size) }
+{
+    let first = first_member(alloc, table, size)?;
+    let left = row_back(alloc, table, first + table.len())?;
+    let points = walk(alloc, table, first, &left)?;
+    Ok(points)
+}
+
+// The first point from which so many arcs lead round.
+fn first_member(alloc: Global, table: &Table<'_>, size: u32) -> Result<usize, NoMemory>
+    requires { IsFewest (Steps table.now) (count table.now) size }
+    ensures { IfOk result (λ first. IsFirstMember (Steps table.now) (count table.now) size first) }
+{
+    // Some point is one, so the last where none before it is.
+    let last = table.len() - 1;
+    for point in 0..last {
+        let row = row_from(alloc, table, point)?;
+        if row[table.len()] == size {
+            return Ok(point);
+        }
+    }
+    Ok(last)
+}
+
+// The points of the fewest arcs round from the first member, each as near as it can be.
+fn walk(alloc: Global, table: &Table<'_>, first: usize, left: &[u32]) -> Result<Vec<u32>, NoMemory>
+    requires first { first < count table.now }
+    requires left { IsRowBack (Steps table.now) (first + count table.now) left.now }
+    requires size { length left.now ≡ count table.now + 1 }
+    ensures { IfOk result (λ points. Walks (Steps table.now) left.now (first + count table.now) first points.items) }
+{
+    let end = first + table.len();
+    let mut points = Vec::new(alloc);
+    let mut at = first;
+    while at < end {
+        points.push(at as u32)?;
+        at = next_member(table, left, end, at);
+    }
+    Ok(points)
+}
+
+// The nearest place from which the rest of the way is one arc shorter.
+fn next_member(table: &Table<'_>, left: &[u32], end: usize, at: usize) -> usize
+    requires low { count table.now ≤ end }
+    requires high { end < count table.now + count table.now }
+    requires before { at < end }
+    requires within { end ≤ at + count table.now }
+    requires left { IsRowBack (Steps table.now) end left.now }
+    requires size { length left.now ≡ count table.now + 1 }
+    ensures { IsNext (Steps table.now) left.now end at result }
+{
+    for to in at + 1..end {
+        if left[end - to] + 1 == left[end - at] && table.reaches(at, to) {
+            return to;
+        }
+    }
+    end
+}
