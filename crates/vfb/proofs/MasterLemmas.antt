@@ -18,8 +18,8 @@ use Rattle.region_support.proofs.PlaceLemmas.{number_below, order_length, ordere
 use Rattle.vfb.specs.Faults.{file_fault}
 use Rattle.vfb.specs.Making.{ArePlaced, shown}
 use Rattle.vfb.specs.Stops.{StopsBy}
-use Rattle.vfb.specs.declared.drawings.ReadStop.{ReadStop}
-use Rattle.vfb.specs.declared.drawings.ReadStop.TheVariants.{Refused, ReadFault, NoMemory}
+use Rattle.vfb.specs.declared.faults.ReadStop.{ReadStop}
+use Rattle.vfb.specs.declared.faults.ReadStop.TheVariants.{Refused, ReadFault, NoMemory}
 use Rattle.vfb.specs.Command.{Placed}
 use Rattle.glif.specs.declared.shape.Outline.{Outline}
 use Rattle.glif.specs.declared.shape.Drawing.{Drawing}

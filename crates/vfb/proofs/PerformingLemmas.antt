@@ -7,8 +7,8 @@ use Rattle.vfb.specs.Command.{Placed, Tuples}
 use Rattle.vfb.specs.Stops.{StopsAt, StopsBy, Names}
 use Rattle.vfb.specs.Ending.{ending_of}
 use Rattle.vfb.specs.declared.glyph.GlyphData.{GlyphData}
-use Rattle.vfb.specs.declared.drawings.ReadStop.{ReadStop}
-use Rattle.vfb.specs.declared.drawings.ReadStop.TheVariants.{Refused, ReadFault, NoMemory}
+use Rattle.vfb.specs.declared.faults.ReadStop.{ReadStop}
+use Rattle.vfb.specs.declared.faults.ReadStop.TheVariants.{Refused, ReadFault, NoMemory}
 use Rattle.vfb.specs.Masters.{Masters}
 use Rattle.vfb.specs.Glyph.{Made, IsMadeOf}
 use Rattle.vfb.specs.Outcome.{Writes, Overflows}

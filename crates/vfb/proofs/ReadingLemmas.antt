@@ -9,8 +9,8 @@ use Rattle.vfb.specs.Command.{Placed}
 use Rattle.vfb.specs.Faults.{drawing_at, drawings_of}
 use Rattle.vfb.specs.Stops.{StopsBy, StopsAt, IsReadFrom, CountsStops, Names, NeverFails, Reads}
 use Rattle.vfb.specs.Words.{seen}
-use Rattle.vfb.specs.declared.drawings.ReadStop.{ReadStop}
-use Rattle.vfb.specs.declared.drawings.ReadStop.TheVariants.{Refused, ReadFault, NoMemory}
+use Rattle.vfb.specs.declared.faults.ReadStop.{ReadStop}
+use Rattle.vfb.specs.declared.faults.ReadStop.TheVariants.{Refused, ReadFault, NoMemory}
 use Rattle.vfb.specs.declared.words.Placed as words
 
 -- the rest of the drawings that the words place

@@ -9,7 +9,7 @@ use Rattle.vfb.specs.Lines.{counts_line}
 use Rattle.vfb.specs.Masters.{Masters, places_of_drawings}
 use Rattle.vfb.specs.Glyph.{Made, IsMadeOf, IsDrawnBy}
 use Rattle.vfb.specs.Stops.{StopsBy}
-use Rattle.vfb.specs.declared.drawings.ReadStop.{ReadStop}
+use Rattle.vfb.specs.declared.faults.ReadStop.{ReadStop}
 use Rattle.vfb.specs.declared.masters.Masters as code
 use Rattle.vfb.specs.declared.glyph.GlyphData.{GlyphData}
 

@@ -5,8 +5,8 @@ use Rattle.outside.specs.Reading.{GivesBy}
 use Rattle.outside.specs.declared.fault.Fault.{Fault}
 use Rattle.vfb.specs.Command.{Placed}
 use Rattle.vfb.specs.Faults.{drawing_at}
-use Rattle.vfb.specs.declared.drawings.ReadStop.{ReadStop}
-use Rattle.vfb.specs.declared.drawings.ReadStop.TheVariants.{Refused, ReadFault, NoMemory}
+use Rattle.vfb.specs.declared.faults.ReadStop.{ReadStop}
+use Rattle.vfb.specs.declared.faults.ReadStop.TheVariants.{Refused, ReadFault, NoMemory}
 
 -- a fault is that of the reading; a device that fails and want of memory may come before it
 abbrev pub StopsBy : {V : Type 0} → ReadStop → Result V Fault → Type 0

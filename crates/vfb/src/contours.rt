@@ -6,7 +6,7 @@ ghost use Rattle.vfb.specs.Masters.{are_alike, all_alike};
 ghost use Rattle.vfb.specs.Stops.{IsReadFrom, NeverFails};
 ghost use Rattle.vfb.specs.Words.{seen};
 
-use crate::drawings::{ReadStop, refuse};
+use crate::faults::{ReadStop, refuse_file};
 use crate::words::Placed;
 use glif::{Drawing, Outline, Point};
 use outside::{Kind, Seq};
@@ -57,7 +57,7 @@ pub(crate) fn all_alike<'a>(
 {
     for (index, drawing) in drawings.iter().enumerate() {
         if !are_alike(default, &drawing.outline) {
-            return Err(refuse(alloc, Kind::NotBuilt, placed[index].path));
+            return Err(refuse_file(alloc, Kind::NotBuilt, placed[index].path));
         }
     }
     Ok(())

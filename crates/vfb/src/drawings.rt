@@ -2,55 +2,18 @@ ghost use Rattle.std.specs.Prelude.{◌≡◌, length, map, All, IfOk};
 ghost use Rattle.glif.specs.Limits.{IsWithinLimits};
 ghost use Rattle.glif.specs.Reading.{plain_drawing};
 ghost use Rattle.glif.specs.declared.shape.Drawing.{Drawing};
-ghost use Rattle.vfb.specs.Faults.{file_fault, drawing_or, drawing_in, drawings_of};
-ghost use Rattle.vfb.specs.Stops.{Refuses, StopsAt, IsReadFrom, NeverFails, Reads};
+ghost use Rattle.vfb.specs.Faults.{drawing_or, drawing_in, drawings_of};
+ghost use Rattle.vfb.specs.Stops.{StopsAt, IsReadFrom, NeverFails, Reads};
 ghost use Rattle.vfb.specs.Words.{seen};
 
+use crate::faults::{ReadStop, refuse_file};
 use crate::words::Placed;
 use glif::{Drawing, read_plain};
-use outside::{Fault, Found, Kind, Name, NoMemory, ReadError, Seq, Sources, Spot, Stop};
+use outside::{Found, Kind, ReadError, Seq, Sources, Stop};
 use std::alloc::Global;
 
 /// The most bytes of one file that are read.
 const FILE_LIMIT: usize = 67_108_864;
-
-/// Why the data of a glyph could not be made.
-#[derive(Drop)]
-pub(crate) enum ReadStop<'a> {
-    /// The files or the words have this fault.
-    Refused(Fault),
-    /// The file at this path could not be read.
-    ReadFault(&'a str),
-    /// Memory ran out.
-    NoMemory,
-}
-
-/// A fault of the file at `path` as a whole.
-fn file_fault(alloc: Global, kind: Kind, path: &str) -> Result<Fault, NoMemory>
-    ensures { IfOk result (λ fault. fault ≡ file_fault kind path.now) }
-{
-    Ok(Fault {
-        path: Name::from_str(alloc, path)?,
-        spot: Spot {
-            kind,
-            item: Name::from_str(alloc, "")?,
-            at: 0,
-            also: 0,
-            first: 0,
-            second: 0,
-        },
-    })
-}
-
-/// Stops with a fault of the file at `path`.
-pub(crate) fn refuse<'a>(alloc: Global, kind: Kind, path: &str) -> ReadStop<'a>
-    ensures { Refuses (file_fault kind path.now) result }
-{
-    match file_fault(alloc, kind, path) {
-        Ok(fault) => ReadStop::Refused(fault),
-        Err(NoMemory) => ReadStop::NoMemory,
-    }
-}
 
 /// The drawing that the bytes of the file at `path` are.
 fn drawing_of<'a>(alloc: Global, path: &str, bytes: &[u8]) -> Result<Drawing, ReadStop<'a>>
@@ -60,7 +23,7 @@ fn drawing_of<'a>(alloc: Global, path: &str, bytes: &[u8]) -> Result<Drawing, Re
 {
     match read_plain(alloc, bytes) {
         Ok(drawing) => Ok(drawing),
-        Err(Stop::At(spot)) => Err(refuse(alloc, spot.kind, path)),
+        Err(Stop::At(spot)) => Err(refuse_file(alloc, spot.kind, path)),
         Err(Stop::NoMemory) => Err(ReadStop::NoMemory),
     }
 }
@@ -76,8 +39,8 @@ fn read_drawing<'a, S: Sources>(
 {
     match sources.read(alloc, path, FILE_LIMIT) {
         Ok(Found::Bytes(bytes)) => drawing_of(alloc, path, bytes.as_slice()),
-        Ok(Found::Absent) => Err(refuse(alloc, Kind::MissingFile, path)),
-        Ok(Found::TooLong(_)) => Err(refuse(alloc, Kind::NotBuilt, path)),
+        Ok(Found::Absent) => Err(refuse_file(alloc, Kind::MissingFile, path)),
+        Ok(Found::TooLong(_)) => Err(refuse_file(alloc, Kind::NotBuilt, path)),
         Err(ReadError::Failed) => Err(ReadStop::ReadFault(path)),
         Err(ReadError::NoMemory) => Err(ReadStop::NoMemory),
     }
@@ -100,10 +63,7 @@ pub(crate) fn read_drawings<'a, S: Sources>(
             Ok(drawing) => drawing,
             Err(stop) => return Err(stop),
         };
-        match drawings.push(drawing) {
-            Ok(()) => {}
-            Err(NoMemory) => return Err(ReadStop::NoMemory),
-        }
+        drawings.push(drawing)?;
     }
     Ok(drawings)
 }

@@ -4,7 +4,8 @@ ghost use Rattle.vfb.specs.Masters.{AreGathered, fitting, masters_of};
 ghost use Rattle.vfb.specs.Stops.{NeverFails, Reads, StopsAt};
 ghost use Rattle.vfb.specs.Words.{asked, seen};
 
-use crate::drawings::{ReadStop, read_drawings};
+use crate::drawings::read_drawings;
+use crate::faults::ReadStop;
 use crate::masters::{Masters, gather};
 use crate::words::Command;
 use outside::Sources;
@@ -42,16 +43,8 @@ pub(crate) fn make_data<'a, S: Sources>(
     ensures { Reads S.tells S.files S.faults S.is_sure sources.old sources.new (StopsAt (S.tells sources.old) (S.files sources.old) (map seen command.now.drawings.items)) (Makes (masters_of (S.files sources.old) (asked command.now)) result) result }
 {
     let placed = command.drawings.as_slice();
-    let drawings = match read_drawings(alloc, placed, sources) {
-        Ok(drawings) => drawings,
-        Err(stop) => return Err(stop),
-    };
-    let masters = match gather(alloc, placed, drawings.as_slice()) {
-        Ok(masters) => masters,
-        Err(stop) => return Err(stop),
-    };
-    match data_of(alloc, &masters) {
-        Ok(data) => Ok(data),
-        Err(stop) => Err(stop),
-    }
+    let drawings = read_drawings(alloc, placed, sources)?;
+    let masters = gather(alloc, placed, drawings.as_slice())?;
+    let data = data_of(alloc, &masters)?;
+    Ok(data)
 }

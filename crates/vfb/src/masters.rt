@@ -7,15 +7,15 @@ ghost use Rattle.region_support.specs.MasterOrder.{axes_of};
 ghost use Rattle.region_support.specs.Places.{places_of};
 ghost use Rattle.region_support.specs.Sorting.{IsOrder};
 ghost use Rattle.vfb.specs.Making.{ArePlaced, shown};
-ghost use Rattle.vfb.specs.Masters.{AreGathered, drawing_numbered, gathered, masters_in, ordered, place_fault, places_of_drawings};
-ghost use Rattle.vfb.specs.Stops.{Refuses, StopsBy, IsReadFrom, NeverFails};
+ghost use Rattle.vfb.specs.Masters.{AreGathered, drawing_numbered, gathered, masters_in, ordered, places_of_drawings};
+ghost use Rattle.vfb.specs.Stops.{StopsBy, IsReadFrom, NeverFails};
 ghost use Rattle.vfb.specs.Words.{seen};
 
 use crate::contours::all_alike;
-use crate::drawings::ReadStop;
+use crate::faults::{ReadStop, refuse_places};
 use crate::words::Placed;
 use glif::{Drawing, Outline, Point};
-use outside::{Fault, Kind, Name, NoMemory, Seq, Spot};
+use outside::{Kind, Name, NoMemory, Seq};
 use region_support::{Location, ModelStop, in_order, order};
 use std::alloc::Global;
 
@@ -28,33 +28,6 @@ pub(crate) struct Masters {
     pub(crate) locations: Seq<Location>,
     /// What each draws.
     pub(crate) outlines: Seq<Outline>,
-}
-
-/// A fault of the places of the drawings with these two numbers.
-fn place_fault(alloc: Global, kind: Kind, at: u32, also: u32) -> Result<Fault, NoMemory>
-    ensures { IfOk result (λ fault. fault ≡ place_fault kind at also) }
-{
-    Ok(Fault {
-        path: Name::from_str(alloc, "")?,
-        spot: Spot {
-            kind,
-            item: Name::from_str(alloc, "")?,
-            at: u64::from(at),
-            also: u64::from(also),
-            first: 0,
-            second: 0,
-        },
-    })
-}
-
-/// Stops with a fault of the places of the drawings with these two numbers.
-fn refuse_places<'a>(alloc: Global, kind: Kind, at: u32, also: u32) -> ReadStop<'a>
-    ensures { Refuses (place_fault kind at also) result }
-{
-    match place_fault(alloc, kind, at, also) {
-        Ok(fault) => ReadStop::Refused(fault),
-        Err(NoMemory) => ReadStop::NoMemory,
-    }
 }
 
 /// An equal place of its own.
@@ -157,21 +130,13 @@ pub(crate) fn gather<'a>(
     ensures never { NeverFails result }
     ensures gathered { IfOk result (λ masters. AreGathered (shown masters)) }
 {
-    let places = match places_of(alloc, placed) {
-        Ok(places) => places,
-        Err(NoMemory) => return Err(ReadStop::NoMemory),
-    };
-    let order = match ordered(alloc, &places) {
-        Ok(order) => order,
-        Err(stop) => return Err(stop),
-    };
+    let places = places_of(alloc, placed)?;
+    let order = ordered(alloc, &places)?;
     let default = &drawings[order.as_slice()[0] as usize].outline;
     match all_alike(alloc, default, placed, drawings) {
         Ok(()) => {}
         Err(stop) => return Err(stop),
     }
-    match masters_in(alloc, &places, drawings, &order) {
-        Ok(masters) => Ok(masters),
-        Err(NoMemory) => Err(ReadStop::NoMemory),
-    }
+    let masters = masters_in(alloc, &places, drawings, &order)?;
+    Ok(masters)
 }
