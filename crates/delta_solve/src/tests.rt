@@ -1,4 +1,4 @@
-ghost use Rattle.std.specs.Prelude.{◌≡◌, true, [], ◌∷◌, All, IfOk, length};
+ghost use Rattle.std.specs.Prelude.{◌≡◌, ◌≤◌, true, [], ◌∷◌, All, IfOk, length};
 ghost use Rattle.glif.specs.Limits.{IsPointWithin, IsWithinLimits};
 ghost use Rattle.delta_solve.specs.GlyphModels.{AreAlike};
 ghost use Rattle.delta_solve.specs.Outlines.{contour_kinds};
@@ -209,8 +209,14 @@ fn glyphs(rt: HostRuntime) {
     assert_eq!(rt; model.tuples.len(), 4);
     for (tuple, (advance, first, second)) in model.tuples.as_slice().iter().zip(&wanted) {
         let deltas = [
-            Pair { x: first.0, y: first.1 },
-            Pair { x: second.0, y: second.1 },
+            Pair {
+                x: first.0,
+                y: first.1,
+            },
+            Pair {
+                x: second.0,
+                y: second.1,
+            },
         ];
         assert!(rt; tuple.deltas.as_slice() == deltas.as_slice());
         assert_eq!(rt; tuple.advance, *advance);

@@ -44,8 +44,8 @@ pub fn is_inferred(points: &[Pair], deltas: &[Pair], from: usize, place: usize, 
         )
 }
 
-// The point at a place, in x.
-fn horizontal(points: &[Pair], deltas: &[Pair], place: usize) -> Reference
+/// The point at a place of the rolled-out contour, as a reference in x.
+pub fn horizontal(points: &[Pair], deltas: &[Pair], place: usize) -> Reference
     requires contour { IsContour points.now deltas.now }
     ensures value { result ≡ record { at = (around points.now place).x; delta = (around deltas.now place).x } }
     ensures within { IsReference result }
@@ -57,8 +57,8 @@ fn horizontal(points: &[Pair], deltas: &[Pair], place: usize) -> Reference
     }
 }
 
-// The point at a place, in y.
-fn vertical(points: &[Pair], deltas: &[Pair], place: usize) -> Reference
+/// The point at a place of the rolled-out contour, as a reference in y.
+pub fn vertical(points: &[Pair], deltas: &[Pair], place: usize) -> Reference
     requires contour { IsContour points.now deltas.now }
     ensures value { result ≡ record { at = (around points.now place).y; delta = (around deltas.now place).y } }
     ensures within { IsReference result }

@@ -10,6 +10,6 @@ mod sets;
 #[cfg(test)]
 mod tests;
 
-pub use arcs::arc_holds;
+pub use arcs::{arc_holds, horizontal, vertical};
 pub use laws::{bound_law, fill_law};
 pub use sets::infers;

@@ -1,3 +1,5 @@
+pub mod SideLemmas
+pub mod SightLemmas
 pub mod TableLemmas
 pub mod RowLemmas
 pub mod StartLemmas

@@ -1,4 +1,5 @@
 pub mod Tables
+pub mod Sides
 pub mod Steps
 pub mod Rows
 pub mod Ways

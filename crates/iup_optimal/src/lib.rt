@@ -10,6 +10,8 @@
 mod answer;
 mod row;
 mod search;
+mod side;
+mod sight;
 mod starts;
 mod table;
 #[cfg(test)]

@@ -3,12 +3,14 @@ ghost use Rattle.iup.specs.Arcs.{IsContour};
 ghost use Rattle.iup.specs.Bounds.{Reaches};
 ghost use Rattle.iup_optimal.specs.Tables.{TellsArcs};
 
+use crate::side::both;
+use crate::sight::Sight;
 use fixpoint::Pair;
-use iup::arc_holds;
+use iup::{horizontal, vertical};
 use outside::NoMemory;
 use std::alloc::Global;
 
-/// The arcs of a contour, each tested once.
+/// The arcs of a contour: for each point in turn whether the arc of one point holds, of two and so on.
 #[derive(Drop)]
 pub struct Table<'a> {
     points: &'a [Pair],
@@ -28,8 +30,8 @@ impl<'a> Table<'a> {
     {
         let count = points.len();
         let mut arcs = Vec::with_capacity(alloc, count * count)?;
-        for entry in 0..count * count {
-            arcs.push(arc_holds(points, deltas, entry / count, entry % count + 1))?;
+        for point in 0..count {
+            push_arcs(&mut arcs, points, deltas, point)?;
         }
         Ok(Table {
             points,
@@ -54,4 +56,31 @@ impl<'a> Table<'a> {
         let count = self.points.len();
         self.arcs[from % count * count + (to - from - 1)]
     }
+}
+
+// The arcs from one point, the shortest first. What the points so far leave open for the end of an arc is
+// kept in a few numbers, so each arc takes a few steps, however long it is.
+fn push_arcs(
+    arcs: &mut Vec<bool>,
+    points: &[Pair],
+    deltas: &[Pair],
+    from: usize,
+) -> Result<(), NoMemory>
+    requires contour { IsContour points.now deltas.now }
+    requires from { from < length points.now }
+    requires size { length arcs.old.items ≡ from * length points.now }
+    requires tells { TellsArcs points.now deltas.now arcs.old.items }
+    ensures size { OnOk result (length arcs.new.items ≡ (from + 1) * length points.now) }
+    ensures tells { OnOk result (TellsArcs points.now deltas.now arcs.new.items) }
+{
+    let mut across = Sight::new(horizontal(points, deltas, from));
+    let mut upward = Sight::new(vertical(points, deltas, from));
+    for to in from + 1..from + points.len() + 1 {
+        let x = horizontal(points, deltas, to);
+        let y = vertical(points, deltas, to);
+        arcs.push(both(across.admits(x), upward.admits(y)))?;
+        across = across.seeing(x);
+        upward = upward.seeing(y);
+    }
+    Ok(())
 }

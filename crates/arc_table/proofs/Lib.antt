@@ -1,6 +1,0 @@
-mod RayLemmas
-mod NearLemmas
-mod SeenLemmas
-mod FitLemmas
-mod AxisLemmas
-mod TableLemmas

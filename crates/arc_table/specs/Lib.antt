@@ -1,3 +1,0 @@
-pub mod Rays
-pub mod Summaries
-pub mod Table

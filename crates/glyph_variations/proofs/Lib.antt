@@ -1,0 +1,3 @@
+pub mod MovingLemmas
+pub mod DrawsLemmas
+pub mod LoopLemmas

@@ -1,0 +1,3 @@
+pub mod Variations
+pub mod Conditions
+pub mod Draws

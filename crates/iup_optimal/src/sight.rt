@@ -1,0 +1,74 @@
+ghost use Rattle.std.specs.Prelude.{◌≡◌, ℤ, ◌↔◌, IsTrue};
+ghost use Rattle.variation_rules.specs.FontUnits.{IsReference};
+ghost use Rattle.iup_optimal.specs.Sides.{IsSight, Admits, BetweenThem};
+ghost use Rattle.variation_rules.specs.declared.inferred.Reference.{Reference};
+
+use crate::side::{Lead, Side, both, is_same};
+use variation_rules::Reference;
+
+/// What the points seen so far after the first reference of an arc leave open for the second one, in one
+/// coordinate.
+#[derive(Clone, Copy)]
+pub struct Sight {
+    first: Reference,
+    // All move as much as the first reference.
+    level: bool,
+    // None moves.
+    still: bool,
+    above: Side,
+    below: Side,
+}
+
+impl Sight {
+    /// No point is seen.
+    pub fn new(first: Reference) -> Sight
+        requires { IsReference first }
+        ensures sight { IsSight result }
+        ensures first { result.first ≡ first }
+        ensures admits { (end : Reference) → IsReference end → Admits result end }
+    {
+        Sight {
+            first,
+            level: true,
+            still: true,
+            above: Side::new(),
+            below: Side::new(),
+        }
+    }
+
+    /// One more point is seen.
+    pub fn seeing(self, point: Reference) -> Sight
+        requires sight { IsSight self }
+        requires point { IsReference point }
+        ensures sight { IsSight result }
+        ensures first { result.first ≡ self.first }
+        ensures admits { (end : Reference) → (Admits result end ↔ (Admits self end × BetweenThem self.first end point)) }
+    {
+        let lead = Lead::between(self.first, point);
+        Sight {
+            first: self.first,
+            level: both(self.level, is_same(lead.step, 0)),
+            still: both(self.still, is_same(point.delta, 0)),
+            above: self.above.seeing(lead),
+            below: self.below.seeing(lead.turned()),
+        }
+    }
+
+    /// Whether all points seen are inferred from the first reference and this second one.
+    pub fn admits(self, end: Reference) -> bool
+        requires sight { IsSight self }
+        requires end { IsReference end }
+        ensures { IsTrue result ↔ Admits self end }
+    {
+        let lead = Lead::between(self.first, end);
+        if 0 < lead.way {
+            self.above.allows(lead)
+        } else if lead.way < 0 {
+            self.below.allows(lead.turned())
+        } else if is_same(lead.step, 0) {
+            self.level
+        } else {
+            self.still
+        }
+    }
+}
