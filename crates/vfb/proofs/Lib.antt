@@ -1,6 +1,7 @@
 pub mod WordLemmas
 pub mod PlacedLemmas
 pub mod MasterLemmas
+pub mod GlyphLemmas
 pub mod ReadingLemmas
 pub mod FileLemmas
 pub mod PerformingLemmas

@@ -1,14 +1,13 @@
 -- What holds of the drawings that words name.
-use Rattle.std.proofs.Common.{◌≡◌, ℕ, zero, suc, ℤ, pos, negsuc, neg_ℤ, ◌+◌, ◌<◌, ◌≤◌, Bool, true, false, List, [], ◌∷◌, length, map, codes, get_or, Option, Some, None, Result, Ok, Err, refl, sym, ◌∙◌, ap, subst, arith, if◌then◌else◌, nat_le, nat_eq, ◌&&◌, All}
+use Rattle.std.proofs.Common.{◌≡◌, ℕ, zero, suc, ℤ, pos, negsuc, ◌≤◌, Bool, true, false, List, [], ◌∷◌, length, codes, get_or, Option, Some, None, Result, Ok, Err, refl, sym, ◌∙◌, ap, subst, arith, if◌then◌else◌, nat_le, nat_eq, ◌&&◌, All}
 use Rattle.std.specs.Prelude.{IfSome, int_le, T, ◌≤ℤ◌, bytes_eq, ◌==◌}
-use Rattle.std.specs.List.{AllByRecursion, list_all, slice_split, count_by}
+use Rattle.std.specs.List.{AllByRecursion, slice_split, count_by}
 use Rattle.std.specs.Path.{rsplit_once}
 use Rattle.std.proofs.lemmas.Bool.{and_parts, eqb-true, leb-true}
 use Rattle.std.proofs.lemmas.List.Sums.{AllPass-from_list_all}
 use Rattle.std.proofs.lemmas.List.Splits.{length-slice_split}
 use Rattle.fixpoint.specs.DecimalText.{whole_of}
 use Rattle.fixpoint.specs.declared.decimal.NumberFault.{NumberFault}
-use Rattle.region_support.specs.MasterOrder.{axes_of}
 use Rattle.region_support.specs.Regions.{IsNormalised, AreNormalisedPlaces}
 use Rattle.vfb.specs.Command.{◌>>=◌, each_of, coordinate_by, coordinate_of, place_of, placed_of, are_on_axes, drawings_named, command_of, Placed, Tuples}
 use Rattle.vfb.specs.Masters.{places_of_drawings}

@@ -1,16 +1,13 @@
 -- Reading the drawings of a command one after another.
-use Rattle.std.proofs.Common.{◌≡◌, ℕ, ◌+◌, ◌<◌, ◌≤◌, List, [], ◌∷◌, ◌++◌, length, map, drop, get_or, Result, Ok, Err, IsOk, refl, sym, ◌∙◌, ap, subst, inl, inr, arith, append_assoc, append-nil, All, drop-cons, suc, add-one}
-use Rattle.outside.specs.Files.{Files, HasRisen}
-use Rattle.outside.specs.Reading.{◌>>=◌, each, with_front}
-use Rattle.outside.specs.declared.fault.Fault.{Fault}
+use Rattle.std.proofs.Common.{◌≡◌, ℕ, ◌≤◌, List, length, map, drop, All}
+use Rattle.outside.specs.Files.{Files}
+use Rattle.outside.specs.Reading.{with_front}
 use Rattle.glif.specs.Limits.{IsWithinLimits}
 use Rattle.glif.specs.declared.shape.Drawing.{Drawing}
 use Rattle.vfb.specs.Command.{Placed}
-use Rattle.vfb.specs.Faults.{drawing_at, drawings_of}
-use Rattle.vfb.specs.Stops.{StopsBy, StopsAt, IsReadFrom, CountsStops, Names, NeverFails, Reads}
+use Rattle.vfb.specs.Faults.{drawings_of}
+use Rattle.vfb.specs.Stops.{StopsAt}
 use Rattle.vfb.specs.Words.{seen}
-use Rattle.vfb.specs.declared.faults.ReadStop.{ReadStop}
-use Rattle.vfb.specs.declared.faults.ReadStop.TheVariants.{Refused, ReadFault, NoMemory}
 use Rattle.vfb.specs.declared.words.Placed as words
 
 -- the rest of the drawings that the words place
@@ -28,4 +25,3 @@ module _ {X : Type 0} (tells : X → Type 0) (files : X → Files) (faults : X �
     pub sure : is_sure old → is_sure now
     pub one_each : length drawings ≡ i
     pub within : All (λ (drawing : Drawing). IsWithinLimits drawing.outline) drawings
-

@@ -131,8 +131,8 @@ rfind_some : (text : List ℕ) (at n : ℕ) → at < n → get_or text at 0 ≡ 
 rfind_some text at zero below is lacks = absurd (omega arith)
 rfind_some text at (suc n) below is lacks =
     elim (eq-or-lt_of_le {n = at} {m = n} (omega arith)) [
-      inl same ↦ rw (eq-eqb (get_or text n 0) 64 (ap (λ i. get_or text i 0) (sym same) ∙ is)) (ap Some (sym same))
-    | inr lower ↦ rw (ne_eqb (get_or text n 0) 64 (lacks n lower (omega arith))) (rfind_some text at n lower is (λ i above under. lacks i above (omega arith)))
+      | inl same ↦ rw (eq-eqb (get_or text n 0) 64 (ap (λ i. get_or text i 0) (sym same) ∙ is)) (ap Some (sym same))
+      | inr lower ↦ rw (ne_eqb (get_or text n 0) 64 (lacks n lower (omega arith))) (rfind_some text at n lower is (λ i above under. lacks i above (omega arith)))
     ]
 
 -- `rsplit_once` at that sign
@@ -146,7 +146,7 @@ splits_last word path place cut =
     let size : length place + j ≡ length word = cut.7 in
     let lacks : (k : ℕ) → i < k → k < length word → get_or word k 0 ≢ 64 =
     λ k above below is. NoCharPasses-char 64 (drop j word) (k - j) cut.2.0 (lit< tt) (omega (arith, length-drop j word))
-        (get_or-drop j word (k - j) 0 ∙ (ap (λ n. get_or word n 0) (omega arith) ∙ is)) in
+    (get_or-drop j word (k - j) 0 ∙ (ap (λ n. get_or word n 0) (omega arith) ∙ is)) in
     let front : take i word ≡ path = sym cut.3 in
     let end : drop (i + 1) word ≡ place = ap (λ n. drop n word) (sym next) ∙ sym cut.4 in
     rw (rfind_some word i (length word) (omega arith) (at.byte (lit< tt)) lacks) (cc)

@@ -1,5 +1,5 @@
 -- The masters of a glyph that a command's drawings are, in their order, or the first fault.
-use Rattle.std.specs.Prelude.{◌≡◌, ℕ, ℤ, pos, ◌≤◌, Bool, true, false, List, [], ◌∷◌, length, map, All, Option, Some, None, Result, Ok, Err, if◌then◌else◌, slice_index_or}
+use Rattle.std.specs.Prelude.{◌≡◌, ℕ, ℤ, pos, ◌≤◌, Bool, List, [], ◌∷◌, length, map, All, Option, Some, Result, Ok, Err, if◌then◌else◌, slice_index_or}
 use Rattle.std.specs.Bool.{beq}
 use Rattle.std.specs.Cmp.Lexicographic.{pointwise}
 use Rattle.outside.specs.Files.{Files}

@@ -1,5 +1,5 @@
 -- How making the data of a command's glyph may stop, and what it makes of the sources.
-use Rattle.std.specs.Prelude.{◌≡◌, ℕ, ◌≤◌, ◌⊎◌, List, [], ◌∷◌, Result, Ok, Err, IsOk}
+use Rattle.std.specs.Prelude.{◌≡◌, ℕ, ◌≤◌, ◌⊎◌, List, [], ◌∷◌, Result, Err, IsOk}
 use Rattle.outside.specs.Files.{Files, HasRisen}
 use Rattle.outside.specs.Reading.{GivesBy}
 use Rattle.outside.specs.declared.fault.Fault.{Fault}

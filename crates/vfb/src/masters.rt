@@ -81,11 +81,7 @@ fn copy_of(alloc: Global, outline: &Outline) -> Result<Outline, NoMemory>
 }
 
 /// What the drawings of these numbers draw, in their order.
-fn outlines_in(
-    alloc: Global,
-    drawings: &[Drawing],
-    order: &[u32],
-) -> Result<Seq<Outline>, NoMemory>
+fn outlines_in(alloc: Global, drawings: &[Drawing], order: &[u32]) -> Result<Seq<Outline>, NoMemory>
     requires { All (λ number. number < length drawings.now) order.now }
     ensures { IfOk result (λ outlines. outlines ≡ map (λ number. (drawing_numbered drawings.now number).outline) order.now) }
 {

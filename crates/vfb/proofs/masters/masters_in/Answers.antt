@@ -13,4 +13,4 @@ pub returns : goal.returns
 returns c =
     let below = first_below c.args.places.now c.args.drawings.now c.args.order.now c.as_slice-numbers.result.now c.as_slice-numbers.ensures c.requires.order c.requires.one_each in
     shown_is _ (places_of c.args.places.now) c.args.drawings.now c.args.order.now c.as_slice-numbers.result.now c.index-drawings-numbers.result
-        (ap places_of c.locations.view_is ∙ c.in_ok-locations.ensures.value) c.as_slice-numbers.ensures below c.in_ok-try_copy.ensures c.in_ok-outlines_in.ensures
+    (ap places_of c.locations.view_is ∙ c.in_ok-locations.ensures.value) c.as_slice-numbers.ensures below c.in_ok-try_copy.ensures c.in_ok-outlines_in.ensures

@@ -1,4 +1,4 @@
-use Rattle.std.proofs.Common.{◌∙◌, ap, arith, map, take_all}
+use Rattle.std.proofs.Common.{◌∙◌, ap, map, take_all}
 use Rattle.region_support.specs.Places.{places_of}
 use Rattle.vfb.specs.declared.words.Placed.{Placed}
 use Rattle.vfb.proofs.MasterLemmas.{pushed_as, places_seen}

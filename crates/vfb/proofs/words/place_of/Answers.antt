@@ -9,7 +9,7 @@ pub returns-in_err-add_coordinate : goal.returns-in_err-add_coordinate
 returns-in_err-add_coordinate c = rw c.from_residual.ensures (sym (loop_none c.args.text.now c.loop-first.rest.now _ _ _ c.loop-first.invariant.1 c.in-Some.ensures.cases c.in_err-add_coordinate.ensures))
 
 pub returns-in_err-add_coordinate-2 : goal.returns-in_err-add_coordinate-2
-returns-in_err-add_coordinate-2 c = 
+returns-in_err-add_coordinate-2 c =
     rw c.from_residual-in_err-add_coordinate-2.ensures (sym (end_none c.args.text.now c.loop-first.rest.now _ c.loop-first.invariant.1 c.in_default.ensures.cases c.in_err-add_coordinate-2.ensures))
 
 pub returns : goal.returns

@@ -1,0 +1,108 @@
+-- Making the variation data of masters.
+use Rattle.std.proofs.Common.{◌≡◌, ℕ, ℤ, ◌+◌, ◌<◌, ◌≤◌, Bool, Some, List, [], ◌∷◌, length, Result, Err, sym, ◌∙◌, ap, subst, arith, All}
+use Rattle.std.proofs.lemmas.List.{length-map}
+use Rattle.outside.specs.declared.fault.Fault.{Fault}
+use Rattle.arrayvec.specs.ArrayVec.{ArrayVec, array_vec_len}
+use Rattle.variation_rules.specs.declared.region.Triple.{Triple}
+use Rattle.variation_rules.specs.declared.tuple.TupleVariation.{TupleVariation}
+use Rattle.variation_rules.specs.TupleVariations.{MeansTuples}
+use Rattle.region_support.specs.MasterOrder.{axes_of}
+use Rattle.region_support.specs.Places.{places_of, regions_in}
+use Rattle.region_support.specs.Regions.{AreNormalisedPlaces, AreNormalisedRegions, AreNoneIfIgnored}
+use Rattle.region_support.proofs.RegionLaw.{regions_count}
+use Rattle.delta_solve.specs.Outlines.{all_points, place}
+use Rattle.delta_solve.specs.GlyphModels.{IsModelOf, IsTupleWithin, default_of, delta_fault}
+use Rattle.delta_solve.specs.declared.model.DeltaStop.TheVariants.{DeltaRange}
+use Rattle.delta_solve.specs.declared.model.GlyphModel.{GlyphModel}
+use Rattle.delta_solve.specs.declared.model.GlyphTuple.{GlyphTuple}
+use Rattle.delta_solve.proofs.GlyphLemmas.{few_points}
+use Rattle.gvar_table.specs.Layout.{IsWritten}
+use Rattle.glyph_variations.specs.Conditions.{AreGlyphTuples, AreWritable, point_count}
+use Rattle.glyph_variations.specs.Variations.{variations_of, explicit_points, outline_points}
+use Rattle.glyph_variations.specs.Draws.{Draws}
+use Rattle.glyph_variations.proofs.DrawsLemmas.{models_are_drawn}
+use Rattle.vfb.specs.Glyph.{IsMadeOf, IsDrawnBy, regions, outline_count, axis_count}
+use Rattle.vfb.specs.Lines.{counts_line}
+use Rattle.vfb.specs.Masters.{Masters, AreGathered, fitting, masters_or, range_fault}
+use Rattle.vfb.specs.Stops.{Refuses, StopsBy}
+use Rattle.vfb.specs.declared.faults.ReadStop.{ReadStop}
+use Rattle.vfb.specs.declared.faults.ReadStop.TheVariants.{Refused, ReadFault, NoMemory}
+
+-- there is a region for each master
+pub one_region_each : (supports : List (ArrayVec Triple)) (locations : List (ArrayVec ℤ)) → regions_in supports ≡ regions (record { name = []; locations = places_of locations; outlines = [] }) → length supports ≡ length locations
+one_region_each supports locations same =
+    sym (length-map supports (λ (support : ArrayVec Triple). support.items)) ∙ (ap length same ∙ (regions_count (places_of locations) ∙ length-map locations (λ (at : ArrayVec ℤ). at.items)))
+
+-- a call that refuses the fault of a reading stops by it
+pub StopsBy-refused : {V : Type 0} (reading : Result V Fault) (fault : Fault) (stop : ReadStop) → reading ≡ Err fault → Refuses fault stop → StopsBy stop reading
+StopsBy-refused reading fault (Refused found) is refuses = is ∙ ap Err (sym refuses)
+StopsBy-refused reading fault (ReadFault path) is refuses = absurd refuses
+StopsBy-refused reading fault NoMemory is refuses = tt
+
+-- a delta that doesn't fit is the masters' fault
+pub fitting_fault : (masters : Masters) (found : List (List Triple)) (master point : ℕ) (y : Bool) (value : ℤ) → found ≡ regions masters
+    → delta_fault found masters.locations masters.outlines ≡ Some (DeltaRange master point y value) → fitting masters ≡ Err (range_fault masters.name master point y value)
+fitting_fault masters found master point y value same is =
+    ap (λ fault. masters_or fault masters) (ap (λ regions. delta_fault regions masters.locations masters.outlines) (sym same) ∙ is)
+
+module _ (masters : Masters) (gathered : AreGathered masters) (model : GlyphModel) (is : IsModelOf (regions masters) masters.locations masters.outlines model) where
+  some_outline : 0 < length masters.outlines
+  some_outline = some masters.locations gathered.some_axes gathered.one_each
+    where
+      some : (locations : List (List ℤ)) → 1 ≤ axes_of locations → length masters.outlines ≡ length locations → 0 < length masters.outlines
+      some [] axes same = absurd (omega (arith, axes))
+      some (at ∷ more) axes same = omega (arith, same)
+
+  -- the default's tuple has its points
+  pub point_count_is : point_count model.tuples ≡ outline_count masters
+  point_count_is = first model.tuples is.tuples.points (omega (arith, some_outline, is.tuples.one_each))
+    where
+      first : (tuples : List GlyphTuple) → All (λ (tuple : GlyphTuple). length tuple.deltas ≡ outline_count masters) tuples → 0 < length tuples → point_count tuples ≡ outline_count masters
+      first [] each some = absurd (omega arith)
+      first (default ∷ tuples) each some = each 0 default (omega arith)
+
+  few_outline_points : outline_count masters ≤ 4000
+  few_outline_points = omega (arith, length-map (all_points (default_of masters.outlines)) place, few_points (default_of masters.outlines) (gathered.within 0 _ some_outline))
+
+  -- the model's tuples can be made tuple variations of
+  pub are_glyph_tuples : All IsTupleWithin model.tuples → AreGlyphTuples model.tuples
+  are_glyph_tuples within = record {
+    few = omega (arith, gathered.few, gathered.one_each, is.tuples.one_each);
+    few_points = omega (arith, point_count_is, few_outline_points);
+    alike = λ k d below. is.tuples.points k d below ∙ sym point_count_is;
+    within = within;
+  }
+
+  -- the data are made of the masters
+  pub is_made : (tuples : List TupleVariation) (bytes : List ℕ) (count explicit points : ℕ) → tuples ≡ variations_of model.lengths (regions masters) model.tuples
+      → IsWritten (point_count model.tuples + 4) bytes tuples → count ≡ length tuples → explicit ≡ explicit_points (point_count model.tuples) tuples → points ≡ outline_points (point_count model.tuples) tuples
+      → IsMadeOf masters (record { bytes = bytes; summary = counts_line count explicit points })
+  is_made tuples bytes count explicit points are written counted named all = record {
+    model = model;
+    tuples = tuples;
+    is_model = is;
+    are_its = are;
+    written = subst (λ n. IsWritten (n + 4) bytes tuples) point_count_is written;
+    counted = ap (λ n. counts_line n explicit points) counted ∙ (ap (λ n. counts_line (length tuples) n points) (named ∙ ap (λ n. explicit_points n tuples) point_count_is)
+        ∙ ap (λ n. counts_line (length tuples) (explicit_points (outline_count masters) tuples) n) (all ∙ ap (λ n. outline_points n tuples) point_count_is));
+  }
+
+  -- and draw what they draw
+  pub is_drawn : (tuples : List TupleVariation) (bytes : List ℕ) → tuples ≡ variations_of model.lengths (regions masters) model.tuples
+      → MeansTuples (axis_count masters) (point_count model.tuples + 4) [] bytes tuples → IsDrawnBy masters bytes
+  is_drawn tuples bytes are means = record {
+    tuples = tuples;
+    means = subst (λ n. MeansTuples (axis_count masters) (n + 4) [] bytes tuples) point_count_is means;
+    draws = subst (Draws (regions masters) masters.locations masters.outlines) (sym are) (models_are_drawn (axes_of masters.locations) masters.locations masters.outlines model gathered.ordered is);
+  }
+
+-- the regions of the masters can be written
+pub are_writable : (masters : Masters) (supports : List (ArrayVec Triple)) → AreGathered masters → All (λ (support : ArrayVec Triple). array_vec_len support ≡ axis_count masters) supports
+    → (AreNormalisedPlaces masters.locations → AreNormalisedRegions (regions_in supports)) → AreNoneIfIgnored (regions_in supports) → AreWritable (axis_count masters) supports
+are_writable masters supports gathered axis_each normalised none = record {
+  some_axes = omega (arith, gathered.some_axes);
+  few_axes = gathered.few_axes;
+  axis_each = axis_each;
+  normalised = normalised gathered.normalised;
+  none_if_ignored = none;
+}
