@@ -1,6 +1,8 @@
 pub mod WordLemmas
-pub mod FileLemmas
+pub mod PlacedLemmas
+pub mod MasterLemmas
 pub mod GlyphLemmas
-pub mod DrawLemmas
+pub mod ReadingLemmas
+pub mod FileLemmas
 pub mod PerformingLemmas
 pub mod SayingLemmas

@@ -1,12 +1,16 @@
 -- What a command leaves behind where saying failed after its file was written.
-use Rattle.std.proofs.Common.{◌≡◌, ℕ, ◌+◌, ◌<◌, List, [], ◌++◌, length, codes, Bor, Option, Result, Ok, sym, ◌∙◌, ap, subst, inr, append_assoc, append-nil}
+use Rattle.std.proofs.Common.{◌≡◌, ℕ, ◌+◌, ◌<◌, List, [], ◌++◌, length, codes, Bor, Option, Result, Ok, Err, ◌∷◌, refl, inl, sym, ◌∙◌, ap, subst, inr, append_assoc, append-nil}
 use Rattle.std.proofs.lemmas.List.{append_cancel_left}
 use Rattle.outside.specs.Files.{Files, put, IsFront}
 use Rattle.outside.specs.declared.fault.Fault.{Fault}
-use Rattle.glif.specs.declared.shape.Drawing.{Drawing}
-use Rattle.vfb.specs.Command.{Tuples}
-use Rattle.vfb.specs.Glyph.{IsData}
-use Rattle.vfb.specs.Lines.{summary}
+use Rattle.vfb.specs.Command.{Placed, Tuples}
+use Rattle.vfb.specs.Stops.{StopsAt, StopsBy, Names}
+use Rattle.vfb.specs.Ending.{ending_of}
+use Rattle.vfb.specs.declared.glyph.GlyphData.{GlyphData}
+use Rattle.vfb.specs.declared.faults.ReadStop.{ReadStop}
+use Rattle.vfb.specs.declared.faults.ReadStop.TheVariants.{Refused, ReadFault, NoMemory}
+use Rattle.vfb.specs.Masters.{Masters}
+use Rattle.vfb.specs.Glyph.{Made, IsMadeOf}
 use Rattle.vfb.specs.Outcome.{Writes, Overflows}
 use Rattle.vfb.specs.Performing.{SaysFront, SaysItself, FailsItself}
 use Rattle.vfb.specs.declared.status.Status.TheVariants as status
@@ -21,23 +25,39 @@ pub SaysFront-from : {risen : Type 0} (old new text : List ℕ) (whole : List �
 SaysFront-from {risen} old new text whole same rose first second =
     subst (λ whole. SaysFront risen whole old new) same (rose, front_said old new text first second)
 
--- the drawings were read, and saying failed behind their data: the file is whole
-module _ {reading : Result (Drawing × Drawing) Fault} (drawings : Drawing × Drawing) (is : reading ≡ Ok drawings) where
-  pub Writes-whole : (out bytes : List ℕ) (old new : Files) → IsData drawings.0 drawings.1 bytes → new ≡ put old out bytes → Writes reading out old new status.WriteFault
-  Writes-whole out bytes old new of whole =
-      subst (λ reading. Writes reading out old new status.WriteFault) (sym is) (bytes, of, inr (bytes, ([], append-nil bytes), whole))
+-- where the sources tell their files, every drawing before the one at which reading stopped is known
+pub StopsAt-told : {told : Type 0} (files : Files) (drawings : List Placed) (path : List ℕ) → told → StopsAt told files drawings path → StopsAt (Unit {0}) files drawings path
+StopsAt-told files [] path tells stops = stops
+StopsAt-told files (placed ∷ later) path tells (inl at) = inl at
+StopsAt-told files (placed ∷ later) path tells (inr (read, stops)) = inr (λ _. read tells, StopsAt-told files later path tells stops)
 
-  pub SaysItself-dash : (command : Tuples) (files : Files) {risen : Type 0} (old new : List ℕ) (path : Bor (List ℕ)) → path.now ≡ codes "-" → SaysFront risen (summary drawings.0 drawings.1) old new → SaysItself command files reading risen old new (WriteFault path)
+-- the data could not be made: nothing was said
+pub SaysItself-stopped : {told : Type 0} (risen : Type 0) (command : Tuples) (files : Files) (reading : Result Masters Fault) (old : List ℕ) (stop : ReadStop)
+    → told → StopsBy stop reading → Names {V = GlyphData} (StopsAt told files command.drawings) (Err stop) → SaysItself command files reading risen old old (ending_of stop)
+SaysItself-stopped risen command files (Ok masters) old (Refused fault) tells is named = refl
+SaysItself-stopped risen command files (Ok masters) old (ReadFault path) tells is named = (StopsAt-told files command.drawings path.now tells named, refl)
+SaysItself-stopped risen command files (Ok masters) old NoMemory tells is named = refl
+SaysItself-stopped risen command files (Err fault) old (Refused found) tells is named = refl
+SaysItself-stopped risen command files (Err fault) old (ReadFault path) tells is named = (StopsAt-told files command.drawings path.now tells named, refl)
+SaysItself-stopped risen command files (Err fault) old NoMemory tells is named = refl
+
+-- the data were made, and saying failed behind them: the file is whole
+module _ {reading : Result Masters Fault} (masters : Masters) (is : reading ≡ Ok masters) (made : Made) (of : IsMadeOf masters made) where
+  pub Writes-whole : (out : List ℕ) (old new : Files) → new ≡ put old out made.bytes → Writes reading out old new status.WriteFault
+  Writes-whole out old new whole =
+      subst (λ reading. Writes reading out old new status.WriteFault) (sym is) (made, of, inr (made.bytes, ([], append-nil made.bytes), whole))
+
+  pub SaysItself-dash : (command : Tuples) (files : Files) {risen : Type 0} (old new : List ℕ) (path : Bor (List ℕ)) → path.now ≡ codes "-" → SaysFront risen made.summary old new → SaysItself command files reading risen old new (WriteFault path)
   SaysItself-dash command files {risen} old new path dash says =
-      subst (λ reading. SaysItself command files reading risen old new (WriteFault path)) (sym is) (inr (dash, says))
+      subst (λ reading. SaysItself command files reading risen old new (WriteFault path)) (sym is) (inr (dash, (made, of, says)))
 
-  pub FailsItself-dash : (command : Tuples) {risen : Type 0} (bytes : List ℕ) (old new : Files) (said_old said_new : List ℕ) (path : Bor (List ℕ))
-      → path.now ≡ codes "-" → IsData drawings.0 drawings.1 bytes → new ≡ put old command.out bytes → SaysFront risen (summary drawings.0 drawings.1) said_old said_new
+  pub FailsItself-dash : (command : Tuples) {risen : Type 0} (old new : Files) (said_old said_new : List ℕ) (path : Bor (List ℕ))
+      → path.now ≡ codes "-" → new ≡ put old command.out made.bytes → SaysFront risen made.summary said_old said_new
       → FailsItself command reading risen old new said_old said_new (WriteFault path)
-  FailsItself-dash command {risen} bytes old new said_old said_new path dash of whole says =
-      subst (λ reading. FailsItself command reading risen old new said_old said_new (WriteFault path)) (sym is) (bytes, of, inr (dash, whole, says))
+  FailsItself-dash command {risen} old new said_old said_new path dash whole says =
+      subst (λ reading. FailsItself command reading risen old new said_old said_new (WriteFault path)) (sym is) (made, of, inr (dash, whole, says))
 
   -- and the summary lacked room
-  pub Overflows-saying : (room : Option ℕ) (say_room : ℕ) (said text : List ℕ) → text ≡ summary drawings.0 drawings.1 → say_room < length said + length text → Overflows reading room say_room said
-  Overflows-saying room say_room said text same full =
-      subst (λ reading. Overflows reading room say_room said) (sym is) (inr (subst (λ text. say_room < length said + length text) same full))
+  pub Overflows-saying : (room : Option ℕ) (say_room : ℕ) (said : List ℕ) → say_room < length said + length made.summary → Overflows reading room say_room said
+  Overflows-saying room say_room said full =
+      subst (λ reading. Overflows reading room say_room said) (sym is) (made, of, inr full)

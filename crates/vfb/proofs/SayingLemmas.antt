@@ -4,11 +4,10 @@ use Rattle.std.proofs.lemmas.List.{append_cancel_left}
 use Rattle.outside.specs.Files.{Files, IsFront, HasRisen}
 use Rattle.outside.specs.Said.{Says}
 use Rattle.outside.specs.declared.fault.Fault.{Fault}
-use Rattle.glif.specs.declared.shape.Drawing.{Drawing}
 use Rattle.vfb.specs.Command.{Tuples}
 use Rattle.vfb.specs.Ending.{status_of, ending_line}
-use Rattle.vfb.specs.Faults.{drawings_of}
-use Rattle.vfb.specs.Lines.{AddsLine, summary, write_fault_line, read_fault_line, refused_line}
+use Rattle.vfb.specs.Masters.{Masters, masters_of}
+use Rattle.vfb.specs.Lines.{AddsLine, write_fault_line, read_fault_line, refused_line}
 use Rattle.vfb.specs.Outcome.{IsAnswer, IsAnswerTo, SaysOf, IsSaid, Fails, IsCut, BreaksOff}
 use Rattle.vfb.specs.Performing.{SaysFront, SaysItself, IsSaidItself, FailsItself, IsCutItself, Performs}
 use Rattle.vfb.specs.declared.status.Status.{Status}
@@ -53,28 +52,22 @@ BreaksOff-from text old mid new first second says adds =
 -- ---- the whole
 
 module _ {inner later risen : Type 0} (first : inner → risen) (second : later → risen) where
-  SaysOf-from : (command : Tuples) (files : Files) (reading : Result (Drawing × Drawing) Fault) (old mid new : List ℕ) (ending : Ending)
+  SaysOf-from : (command : Tuples) (files : Files) (reading : Result Masters Fault) (old mid new : List ℕ) (ending : Ending)
       → IsAnswerTo reading (status_of ending) → SaysItself command files reading inner old mid ending → AddsLine later (ending_line ending) mid new
       → SaysOf command files reading risen old new (status_of ending)
-  SaysOf-from command files (Ok drawings) old mid new Done answer says adds = AddsLine-none mid new adds ∙ says
-  SaysOf-from command files (Ok drawings) old mid new (Refused fault) answer says adds = absurd answer
-  SaysOf-from command files (Ok drawings) old mid new Usage answer says adds = absurd answer
-  SaysOf-from command files (Ok drawings) old mid new (ReadFault path) answer (inl at, same) adds =
-      inl (subst (λ path. AddsLine risen (read_fault_line path) old new) at (AddsLine-wider (read_fault_line path.now) old mid new second same adds))
-  SaysOf-from command files (Ok drawings) old mid new (ReadFault path) answer (inr (given, at), same) adds =
-      inr (given, subst (λ path. AddsLine risen (read_fault_line path) old new) at (AddsLine-wider (read_fault_line path.now) old mid new second same adds))
-  SaysOf-from command files (Ok drawings) old mid new (WriteFault path) answer (inl at) adds =
+  SaysOf-from command files (Ok masters) old mid new Done answer (made, of, says) adds = (made, of, AddsLine-none mid new adds ∙ says)
+  SaysOf-from command files (Ok masters) old mid new (Refused fault) answer says adds = absurd answer
+  SaysOf-from command files (Ok masters) old mid new Usage answer says adds = absurd answer
+  SaysOf-from command files (Ok masters) old mid new (ReadFault path) answer (at, same) adds = (path.now, at, AddsLine-wider (read_fault_line path.now) old mid new second same adds)
+  SaysOf-from command files (Ok masters) old mid new (WriteFault path) answer (inl at) adds =
       inl (subst (λ path. AddsLine risen (write_fault_line path) old new) at.0 (AddsLine-wider (write_fault_line path.now) old mid new second at.1 adds))
-  SaysOf-from command files (Ok drawings) old mid new (WriteFault path) answer (inr at) adds =
-      inr (BreaksOff-from (summary drawings.0 drawings.1) old mid new first second at.1 (subst (λ path. AddsLine later (write_fault_line path) mid new) at.0 adds))
-  SaysOf-from command files (Ok drawings) old mid new NoMemory answer says adds = AddsLine-wider _ old mid new second says adds
+  SaysOf-from command files (Ok masters) old mid new (WriteFault path) answer (inr (at, (made, of, says))) adds =
+      inr (made, of, BreaksOff-from made.summary old mid new first second says (subst (λ path. AddsLine later (write_fault_line path) mid new) at adds))
+  SaysOf-from command files (Ok masters) old mid new NoMemory answer says adds = AddsLine-wider _ old mid new second says adds
   SaysOf-from command files (Err fault) old mid new Done answer says adds = absurd answer
   SaysOf-from command files (Err fault) old mid new (Refused found) answer says adds = AddsLine-wider (refused_line found) old mid new second says adds
   SaysOf-from command files (Err fault) old mid new Usage answer says adds = absurd answer
-  SaysOf-from command files (Err fault) old mid new (ReadFault path) answer (inl at, same) adds =
-      inl (subst (λ path. AddsLine risen (read_fault_line path) old new) at (AddsLine-wider (read_fault_line path.now) old mid new second same adds))
-  SaysOf-from command files (Err fault) old mid new (ReadFault path) answer (inr (given, at), same) adds =
-      inr (given, subst (λ path. AddsLine risen (read_fault_line path) old new) at (AddsLine-wider (read_fault_line path.now) old mid new second same adds))
+  SaysOf-from command files (Err fault) old mid new (ReadFault path) answer (at, same) adds = (path.now, at, AddsLine-wider (read_fault_line path.now) old mid new second same adds)
   SaysOf-from command files (Err fault) old mid new (WriteFault path) answer says adds = absurd answer
   SaysOf-from command files (Err fault) old mid new NoMemory answer says adds = AddsLine-wider _ old mid new second says adds
 
@@ -87,23 +80,23 @@ module _ {inner later risen : Type 0} (first : inner → risen) (second : later 
   IsSaid-from None files old mid new (ReadFault _) answer says adds = absurd answer
   IsSaid-from None files old mid new (WriteFault _) answer says adds = absurd answer
   IsSaid-from None files old mid new NoMemory answer says adds = absurd answer
-  IsSaid-from (Some command) files old mid new ending answer says adds = SaysOf-from command files (drawings_of files command) old mid new ending answer says adds
+  IsSaid-from (Some command) files old mid new ending answer says adds = SaysOf-from command files (masters_of files command) old mid new ending answer says adds
 
-  Fails-from : (command : Tuples) (reading : Result (Drawing × Drawing) Fault) (old new : Files) (said_old said_mid said_new : List ℕ) (path : Bor (List ℕ))
+  Fails-from : (command : Tuples) (reading : Result Masters Fault) (old new : Files) (said_old said_mid said_new : List ℕ) (path : Bor (List ℕ))
       → FailsItself command reading inner old new said_old said_mid (WriteFault path) → AddsLine later (write_fault_line path.now) said_mid said_new
       → Fails command reading risen old new said_old said_new
   Fails-from command (Err fault) old new said_old said_mid said_new path cut adds = absurd cut
-  Fails-from command (Ok drawings) old new said_old said_mid said_new path (bytes, of, inl (at, cut, same)) adds =
-      (bytes, of, inl (cut, subst (λ path. AddsLine risen (write_fault_line path) said_old said_new) at (AddsLine-wider (write_fault_line path.now) said_old said_mid said_new second same adds)))
-  Fails-from command (Ok drawings) old new said_old said_mid said_new path (bytes, of, inr (at, whole, says)) adds =
-      (bytes, of, inr (whole, BreaksOff-from (summary drawings.0 drawings.1) said_old said_mid said_new first second says (subst (λ path. AddsLine later (write_fault_line path) said_mid said_new) at adds)))
+  Fails-from command (Ok masters) old new said_old said_mid said_new path (made, of, inl (at, cut, same)) adds =
+      (made, of, inl (cut, subst (λ path. AddsLine risen (write_fault_line path) said_old said_new) at (AddsLine-wider (write_fault_line path.now) said_old said_mid said_new second same adds)))
+  Fails-from command (Ok masters) old new said_old said_mid said_new path (made, of, inr (at, whole, says)) adds =
+      (made, of, inr (whole, BreaksOff-from made.summary said_old said_mid said_new first second says (subst (λ path. AddsLine later (write_fault_line path) said_mid said_new) at adds)))
 
   pub IsCut-from : (command : Option Tuples) (files : Files) (old new : Files) (said_old said_mid said_new : List ℕ) (ending : Ending)
       → status_of ending ≡ status.WriteFault → IsCutItself command files inner old new said_old said_mid ending → AddsLine later (ending_line ending) said_mid said_new
       → IsCut command files risen old new said_old said_new
   IsCut-from None files old new said_old said_mid said_new (WriteFault path) is cut adds = absurd cut
   IsCut-from (Some command) files old new said_old said_mid said_new (WriteFault path) is cut adds =
-      Fails-from command (drawings_of files command) old new said_old said_mid said_new path cut adds
+      Fails-from command (masters_of files command) old new said_old said_mid said_new path cut adds
   IsCut-from command files old new said_old said_mid said_new Done is cut adds = absurd cc
   IsCut-from command files old new said_old said_mid said_new (Refused _) is cut adds = absurd cc
   IsCut-from command files old new said_old said_mid said_new Usage is cut adds = absurd cc

@@ -1,24 +1,59 @@
--- What the words of a call ask for.
-use Rattle.std.specs.Prelude.{ℕ, ◌-◌, List, [], ◌∷◌, length, take, drop, codes, bytes_eq, Option, Some, None, if◌then◌else◌}
+-- What the words of a call ask for. 64 is the sign @, and 44 the comma.
+use Rattle.std.specs.Prelude.{ℕ, ℤ, pos, negsuc, int_le, Bool, false, ◌&&◌, List, [], ◌∷◌, length, codes, ◌==◌, nat_eq, nat_le, bytes_eq, Option, Some, None, Result, Ok, Err, if◌then◌else◌}
+use Rattle.std.specs.List.{list_all, slice_split}
+use Rattle.std.specs.Path.{rsplit_once}
+use Rattle.fixpoint.specs.DecimalText.{whole_of}
+use Rattle.fixpoint.specs.declared.decimal.NumberFault.{NumberFault}
 
--- the file to write, and the drawings at the default and at the end of the one axis
+-- a drawing's file, and where in the design space it stands: one normalised coordinate an axis
+pub record Placed : Type 0 where
+  pub path : List ℕ
+  pub at : List ℤ
+
+-- the file to write, and the drawings whose glyph it is about
 pub record Tuples : Type 0 where
   pub out : List ℕ
-  pub first : List ℕ
-  pub second : List ℕ
+  pub drawings : List Placed
 
--- the path in front of a place such as `@0`, None where the word doesn't end in it
-abbrev pub path_before : List ℕ → List ℕ → Option (List ℕ)
-path_before place word =
-    if bytes_eq (drop (length word - length place) word) place then Some (take (length word - length place) word) else None
+-- nothing, or what the second step makes of the first one's value
+infixl 10 ◌>>=◌
+abbrev pub ◌>>=◌ : {A B : Type 0} → Option A → (A → Option B) → Option B
+(Some x) >>= f = f x
+None >>= f = None
 
-abbrev pub tuples_of : List ℕ → Option (List ℕ) → Option (List ℕ) → Option Tuples
-tuples_of out (Some first) (Some second) = Some (record { out = out; first = first; second = second })
-tuples_of out _ _ = None
+-- what each item gives, or nothing where one gives nothing
+abbrev pub each_of : {A B : Type 0} → (A → Option B) → List A → Option (List B)
+each_of f [] = Some []
+each_of f (x ∷ xs) = f x >>= λ y. each_of f xs >>= λ ys. Some (y ∷ ys)
 
--- The words are the program's name, `tuples`, the file to write, and two drawings, the first at 0 and the second
--- at 16384. All other words are none of a command.
+-- a number from -16384 to 16384
+abbrev pub coordinate_by : Result ℤ NumberFault → Option ℤ
+coordinate_by (Ok raw) = if int_le (negsuc 16383) raw && int_le raw (pos 16384) then Some raw else None
+coordinate_by (Err _) = None
+
+-- a coordinate from -1 to 1 in F2DOT14, as a whole number
+unfoldable pub coordinate_of : List ℕ → Option ℤ
+coordinate_of text = coordinate_by (whole_of text)
+
+-- coordinates of at most eight axes, with commas between them
+unfoldable pub place_of : List ℕ → Option (List ℤ)
+place_of text = each_of coordinate_of (slice_split (λ b. b == 44) text) >>= λ at. if nat_le (length at) 8 then Some at else None
+
+-- a path, behind its last sign @ the place
+unfoldable pub placed_of : List ℕ → Option Placed
+placed_of word = rsplit_once 64 word >>= λ parts. place_of parts.1 >>= λ at. Some (record { path = parts.0; at = at })
+
+-- all drawings stand on the axes of the first, which there is
+abbrev pub are_on_axes : List Placed → Bool
+are_on_axes [] = false
+are_on_axes (first ∷ more) = list_all (λ placed. nat_eq (length placed.at) (length first.at)) more
+
+abbrev pub drawings_named : List (List ℕ) → Option (List Placed)
+drawings_named words = each_of placed_of words >>= λ drawings. if nat_le (length drawings) 128 && are_on_axes drawings then Some drawings else None
+
+-- The words are the program's name, `tuples`, the file to write, and 1 to 128 drawings at places of as many axes. All
+-- other words are none of a command.
 abbrev pub command_of : List (List ℕ) → Option Tuples
-command_of (program ∷ name ∷ out ∷ first ∷ second ∷ []) =
-    if bytes_eq name (codes "tuples") then tuples_of out (path_before (codes "@0") first) (path_before (codes "@16384") second) else None
+command_of (program ∷ name ∷ out ∷ words) =
+    if bytes_eq name (codes "tuples") then (drawings_named words >>= λ drawings. Some (record { out = out; drawings = drawings })) else None
 command_of _ = None

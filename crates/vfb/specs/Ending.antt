@@ -1,8 +1,8 @@
 -- The status and the line of each way in which a command ends.
 use Rattle.std.specs.Prelude.{ℕ, List, []}
 use Rattle.vfb.specs.Lines.{refused_line, usage_line, read_fault_line, write_fault_line, no_memory_line}
-use Rattle.vfb.specs.declared.drawings.ReadStop.{ReadStop}
-use Rattle.vfb.specs.declared.drawings.ReadStop.TheVariants as stop
+use Rattle.vfb.specs.declared.faults.ReadStop.{ReadStop}
+use Rattle.vfb.specs.declared.faults.ReadStop.TheVariants as stop
 use Rattle.vfb.specs.declared.status.Status.{Status}
 use Rattle.vfb.specs.declared.status.Status.TheVariants as status
 use Rattle.vfb.specs.declared.ending.Ending.{Ending}

@@ -1,14 +1,13 @@
 -- The drawings that a command names, or the first fault of their files.
-use Rattle.std.specs.Prelude.{ℕ, pos, List, [], length, map, Option, Some, None, Result, Ok, Err, nat_le, nat_eq, if◌then◌else◌}
-use Rattle.std.specs.Cmp.Lexicographic.{pointwise}
+use Rattle.std.specs.Prelude.{ℕ, pos, List, [], length, Option, Some, None, Result, Ok, Err, nat_le, if◌then◌else◌}
 use Rattle.outside.specs.Files.{Files}
-use Rattle.outside.specs.Reading.{◌>>=◌}
+use Rattle.outside.specs.Reading.{each}
 use Rattle.outside.specs.declared.fault.Kind.{Kind}
 use Rattle.outside.specs.declared.fault.Kind.TheVariants.{MissingFile, NotBuilt}
 use Rattle.outside.specs.declared.fault.Fault.{Fault}
 use Rattle.glif.specs.Reading.{plain_drawing}
 use Rattle.glif.specs.declared.shape.Drawing.{Drawing}
-use Rattle.vfb.specs.Command.{Tuples}
+use Rattle.vfb.specs.Command.{Placed}
 
 -- a fault of a file as a whole
 abbrev pub file_fault : Kind → List ℕ → Fault
@@ -27,18 +26,9 @@ drawing_in None path = Err (file_fault MissingFile path)
 drawing_in (Some bytes) path =
     if nat_le (length bytes) 67108864 then drawing_or (plain_drawing bytes) path else Err (file_fault NotBuilt path)
 
--- how many points each contour has
-abbrev pub contour_lengths : Drawing → List ℕ
-contour_lengths drawing = map length drawing.outline.contours
+abbrev pub drawing_at : Files → Placed → Result Drawing Fault
+drawing_at files placed = drawing_in (files placed.path) placed.path
 
-abbrev pub drawings_by : Drawing → Drawing → List ℕ → Result (Drawing × Drawing) Fault
-drawings_by first second path =
-    if pointwise nat_eq (contour_lengths first) (contour_lengths second) then Ok (first, second) else Err (file_fault NotBuilt path)
-
--- The two drawings, or the first fault: that of the first file, that of the second one, and then that of a second
--- drawing whose contours don't have the points of the first one's.
-abbrev pub drawings_of : Files → Tuples → Result (Drawing × Drawing) Fault
-drawings_of files command =
-    drawing_in (files command.first) command.first >>= λ first.
-    drawing_in (files command.second) command.second >>= λ second.
-    drawings_by first second command.second
+-- what the files draw, in the order of the words, or the fault of the first that has one
+abbrev pub drawings_of : Files → List Placed → Result (List Drawing) Fault
+drawings_of files drawings = each (drawing_at files) drawings

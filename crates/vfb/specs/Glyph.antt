@@ -1,68 +1,52 @@
--- The glyph that two drawings make on one axis: its deltas, its variation data, and what they draw.
-use Rattle.std.specs.Prelude.{◌≡◌, ℕ, ℤ, pos, ◌+◌, ◌<◌, ◌+ℤ◌, ◌-ℤ◌, ◌*ℤ◌, Bool, ◌&&◌, List, [], ◌∷◌, ◌++◌, length, map, flat_map, slice_index_or}
-use Rattle.std.specs.Bool.{MatchBool}
-use Rattle.std.specs.Ordering.{int_eq}
-use Rattle.std.specs.List.{list_all}
-use Rattle.fixpoint.specs.declared.plane.Pair.{Pair}
-use Rattle.glif.specs.declared.shape.Point.{Point}
-use Rattle.glif.specs.declared.shape.Drawing.{Drawing}
-use Rattle.variation_rules.specs.InferredDelta.{still}
-use Rattle.variation_rules.specs.TupleVariations.{MeansTuples, plain_triple}
-use Rattle.variation_rules.specs.Scalar.{scalar_of}
-use Rattle.variation_rules.specs.DrawnOutline.{Fills, drawn, drawn_advance}
+-- The glyph of masters: its variation data, what is said of them, and what they draw.
+use Rattle.std.specs.Prelude.{◌≡◌, ℕ, ◌+◌, List, [], length}
+use Rattle.variation_rules.specs.TupleVariations.{MeansTuples}
+use Rattle.variation_rules.specs.declared.region.Triple.{Triple}
 use Rattle.variation_rules.specs.declared.tuple.TupleVariation.{TupleVariation}
-use Rattle.gvar_table.specs.OneTuple.{IsOneTuple}
-use Rattle.vfb.specs.Faults.{contour_lengths}
+use Rattle.region_support.specs.MasterOrder.{axes_of}
+use Rattle.region_support.specs.Regions.{regions_of}
+use Rattle.delta_solve.specs.Outlines.{points_of}
+use Rattle.delta_solve.specs.GlyphModels.{IsModelOf, default_of}
+use Rattle.delta_solve.specs.declared.model.GlyphModel.{GlyphModel}
+use Rattle.gvar_table.specs.Layout.{IsWritten}
+use Rattle.glyph_variations.specs.Variations.{variations_of, explicit_points, outline_points}
+use Rattle.glyph_variations.specs.Draws.{Draws}
+use Rattle.vfb.specs.Lines.{counts_line}
+use Rattle.vfb.specs.Masters.{Masters}
 
--- where a point is
-abbrev pub place : Point → Pair
-place point = record { x = point.x; y = point.y }
+-- what is written of a glyph, and what is said of it
+pub record Made : Type 0 where
+  pub bytes : List ℕ
+  pub summary : List ℕ
 
--- all points of the outline, contour by contour
-abbrev pub points_of : Drawing → List Pair
-points_of drawing = map place (flat_map (λ contour. contour) drawing.outline.contours)
+-- how many points the default's outline has
+abbrev pub outline_count : Masters → ℕ
+outline_count masters = length (points_of (default_of masters.outlines))
 
--- the way from each point to the other drawing's
-abbrev pub moves : List Pair → List Pair → List (ℤ × ℤ)
-moves (a ∷ more) (b ∷ others) = (b.x -ℤ a.x, b.y -ℤ a.y) ∷ moves more others
-moves _ _ = []
+-- how many points the glyph has, its four phantom points among them
+abbrev pub all_count : Masters → ℕ
+all_count masters = outline_count masters + 4
 
--- The deltas from the first drawing to the second: those of the outline's points, and those of the four phantom
--- points, of which the second stands at the advance.
-abbrev pub deltas_of : Drawing → Drawing → List (ℤ × ℤ)
-deltas_of first second = moves (points_of first) (points_of second)
-    ++ ((pos 0, pos 0) ∷ (second.outline.advance -ℤ first.outline.advance, pos 0) ∷ (pos 0, pos 0) ∷ (pos 0, pos 0) ∷ [])
+abbrev pub axis_count : Masters → ℕ
+axis_count masters = axes_of masters.locations
 
-abbrev pub is_still : ℤ × ℤ → Bool
-is_still delta = int_eq delta.0 (pos 0) && int_eq delta.1 (pos 0)
+-- the region of each master
+abbrev pub regions : Masters → List (List Triple)
+regions masters = regions_of masters.locations
 
--- whether nothing moves
-abbrev pub are_equal : Drawing → Drawing → Bool
-are_equal first second = list_all is_still (deltas_of first second)
-
--- The variation data that are written: none where nothing moves, else one tuple of all points with its peak at the
--- end of the axis.
-abbrev pub IsData : Drawing → Drawing → List ℕ → Type 0
-IsData first second bytes = MatchBool (are_equal first second) (bytes ≡ []) (IsOneTuple (pos 16384) (deltas_of first second) bytes)
-
--- the value at a location of the straight line from a at the default to b at the end of the axis, in 65536ths
-abbrev pub between : ℤ → ℤ → ℤ → ℤ
-between at a b = (pos 65536 *ℤ a) +ℤ (scalar_of 16 (plain_triple (pos 16384) ∷ []) (at ∷ []) *ℤ (b -ℤ a))
-
--- The bytes are glyph variation data on one axis. Drawn over the first drawing they give at each location, for each
--- coordinate and for the advance, the line to the second one. (It holds at every number, and so from -16384 to 16384.
--- Bytes mean one list of tuples at most, and tuples fill an outline in one way: both are laws of the meaning.)
-pub record DrawsBetween (first second : Drawing) (bytes : List ℕ) : Type 0 where
+-- The bytes are the one spelling of the tuple variations of the masters' model, and what is said are their counts.
+pub record IsMadeOf (masters : Masters) (made : Made) : Type 0 where
+  pub model : GlyphModel
   pub tuples : List TupleVariation
-  pub fills : List (List Pair)
-  pub means : MeansTuples 1 (length (points_of first) + 4) [] bytes tuples
-  pub filled : Fills (contour_lengths first) (points_of first) tuples fills
-  pub xs : (at : ℤ) (i : ℕ) → i < length (points_of first) →
-      drawn (λ p. p.x) (points_of first) (at ∷ []) tuples fills i
-      ≡ between at (slice_index_or (points_of first) i still).x (slice_index_or (points_of second) i still).x
-  pub ys : (at : ℤ) (i : ℕ) → i < length (points_of first) →
-      drawn (λ p. p.y) (points_of first) (at ∷ []) tuples fills i
-      ≡ between at (slice_index_or (points_of first) i still).y (slice_index_or (points_of second) i still).y
-  pub advance : (at : ℤ) →
-      drawn_advance first.outline.advance (length (points_of first)) (at ∷ []) tuples
-      ≡ between at first.outline.advance second.outline.advance
+  pub is_model : IsModelOf (regions masters) masters.locations masters.outlines model
+  pub are_its : tuples ≡ variations_of model.lengths (regions masters) model.tuples
+  pub written : IsWritten (all_count masters) made.bytes tuples
+  pub counted : made.summary ≡ counts_line (length tuples) (explicit_points (outline_count masters) tuples) (outline_points (outline_count masters) tuples)
+
+-- The bytes are glyph variation data. Drawn over the default's drawing they give at every location, for each coordinate
+-- and for the advance, the value of the support model; and at each master's own location, rounded, what it draws.
+-- (Bytes mean one list of tuples at most, and tuples fill an outline in one way: both are laws of the meaning.)
+pub record IsDrawnBy (masters : Masters) (bytes : List ℕ) : Type 0 where
+  pub tuples : List TupleVariation
+  pub means : MeansTuples (axis_count masters) (all_count masters) [] bytes tuples
+  pub draws : Draws (regions masters) masters.locations masters.outlines tuples

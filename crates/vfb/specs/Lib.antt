@@ -1,9 +1,10 @@
 pub mod Command
-pub mod Compatible
 pub mod Ending
 pub mod Faults
 pub mod Glyph
 pub mod Lines
+pub mod Masters
+pub mod Making
 pub mod Outcome
 pub mod Performing
 pub mod Stops

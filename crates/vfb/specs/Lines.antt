@@ -1,12 +1,10 @@
 -- The lines that are said.
-use Rattle.std.specs.Prelude.{◌≡◌, ℕ, List, [], ◌∷◌, ◌++◌, length, codes, decimal, if◌then◌else◌, ◌⊎◌}
+use Rattle.std.specs.Prelude.{◌≡◌, ℕ, List, [], ◌∷◌, ◌++◌, codes, decimal, ◌⊎◌}
 use Rattle.std.specs.List.{concat}
 use Rattle.std.specs.Fmt.{signed_decimal}
 use Rattle.outside.specs.Files.{IsFront}
 use Rattle.outside.specs.Kinds.{kind_name}
 use Rattle.outside.specs.declared.fault.Fault.{Fault}
-use Rattle.glif.specs.declared.shape.Drawing.{Drawing}
-use Rattle.vfb.specs.Glyph.{points_of, are_equal}
 
 -- an empty text is shown as a dash
 abbrev pub or_dash : List ℕ → List ℕ
@@ -33,10 +31,6 @@ no_memory_line = codes "no memory\n"
 abbrev pub counts_line : ℕ → ℕ → ℕ → List ℕ
 counts_line tuples explicit points =
     concat (codes "tuples " ∷ decimal tuples ∷ codes " explicit " ∷ decimal explicit ∷ codes " of " ∷ decimal points ∷ codes "\n" ∷ [])
-
--- what is said of the data of two drawings: one tuple of all outline points, or none
-abbrev pub summary : Drawing → Drawing → List ℕ
-summary first second = if are_equal first second then counts_line 0 0 0 else counts_line 1 (length (points_of first)) (length (points_of first))
 
 -- the text went from old to new by a line, which is cut short only where the count of faults rose
 abbrev pub AddsLine : Type 0 → List ℕ → List ℕ → List ℕ → Type 0

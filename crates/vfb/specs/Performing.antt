@@ -1,13 +1,12 @@
 -- What every function that performs a command makes of the outside, before the line of how it ended is said.
-use Rattle.std.specs.Prelude.{◌≡◌, ◌↔◌, ℕ, ◌≤◌, ◌⊎◌, List, ◌++◌, codes, Option, Some, None, Result, Ok, Err, IsOk}
+use Rattle.std.specs.Prelude.{◌≡◌, ◌↔◌, ℕ, ◌≤◌, ◌⊎◌, List, ◌++◌, codes, Option, Some, None, Result, Ok, Err}
 use Rattle.outside.specs.Files.{Files, put, IsFront, HasRisen}
 use Rattle.outside.specs.declared.fault.Fault.{Fault}
-use Rattle.glif.specs.declared.shape.Drawing.{Drawing}
 use Rattle.vfb.specs.Command.{Tuples}
-use Rattle.vfb.specs.Faults.{drawing_in, drawings_of}
-use Rattle.vfb.specs.Glyph.{IsData}
-use Rattle.vfb.specs.Lines.{summary}
-use Rattle.vfb.specs.Outcome.{IsAnswer, WritesNothing, IsCutShort, IsWritten, Draws, HasDrawings, LacksRoom, EndsBy}
+use Rattle.vfb.specs.Masters.{Masters, masters_of}
+use Rattle.vfb.specs.Stops.{StopsAt}
+use Rattle.vfb.specs.Glyph.{Made, IsMadeOf}
+use Rattle.vfb.specs.Outcome.{IsAnswer, WritesNothing, IsCutShort, IsWritten, Draws, HasMasters, LacksRoom, EndsBy}
 use Rattle.vfb.specs.Ending.{status_of}
 use Rattle.vfb.specs.declared.status.Status.TheVariants as status
 use Rattle.vfb.specs.declared.ending.Ending.{Ending}
@@ -18,22 +17,22 @@ abbrev pub SaysFront : Type 0 → List ℕ → List ℕ → List ℕ → Type 0
 SaysFront risen text old new = risen × ((front : List ℕ) × IsFront front text × (new ≡ old ++ front))
 
 -- the text that a command says itself, and which path its ending names
-abbrev pub SaysItself : Tuples → Files → Result (Drawing × Drawing) Fault → Type 0 → List ℕ → List ℕ → Ending → Type 0
-SaysItself command files (Ok drawings) risen old new Done = new ≡ old ++ summary drawings.0 drawings.1
-SaysItself command files (Ok drawings) risen old new (WriteFault path) =
-    ((path.now ≡ command.out) × (new ≡ old)) ⊎ ((path.now ≡ codes "-") × SaysFront risen (summary drawings.0 drawings.1) old new)
-SaysItself command files _ risen old new (ReadFault path) = ((path.now ≡ command.first) ⊎ (IsOk (drawing_in (files command.first) command.first) × (path.now ≡ command.second))) × (new ≡ old)
+abbrev pub SaysItself : Tuples → Files → Result Masters Fault → Type 0 → List ℕ → List ℕ → Ending → Type 0
+SaysItself command files (Ok masters) risen old new Done = (made : Made) × IsMadeOf masters made × (new ≡ old ++ made.summary)
+SaysItself command files (Ok masters) risen old new (WriteFault path) =
+    ((path.now ≡ command.out) × (new ≡ old)) ⊎ ((path.now ≡ codes "-") × ((made : Made) × IsMadeOf masters made × SaysFront risen made.summary old new))
+SaysItself command files _ risen old new (ReadFault path) = StopsAt (Unit {0}) files command.drawings path.now × (new ≡ old)
 SaysItself command files _ risen old new _ = new ≡ old
 
 abbrev pub IsSaidItself : Option Tuples → Files → Type 0 → List ℕ → List ℕ → Ending → Type 0
 IsSaidItself None files risen old new ending = new ≡ old
-IsSaidItself (Some command) files risen old new ending = SaysItself command files (drawings_of files command) risen old new ending
+IsSaidItself (Some command) files risen old new ending = SaysItself command files (masters_of files command) risen old new ending
 
 -- where an ending is a write fault, it names the file that is cut short, or a dash where the file is whole
-abbrev pub FailsItself : Tuples → Result (Drawing × Drawing) Fault → Type 0 → Files → Files → List ℕ → List ℕ → Ending → Type 0
-FailsItself command (Ok drawings) risen old new said_old said_new (WriteFault path) = (bytes : List ℕ) × IsData drawings.0 drawings.1 bytes
-    × (((path.now ≡ command.out) × IsCutShort command.out bytes old new × (said_new ≡ said_old))
-    ⊎ ((path.now ≡ codes "-") × (new ≡ put old command.out bytes) × SaysFront risen (summary drawings.0 drawings.1) said_old said_new))
+abbrev pub FailsItself : Tuples → Result Masters Fault → Type 0 → Files → Files → List ℕ → List ℕ → Ending → Type 0
+FailsItself command (Ok masters) risen old new said_old said_new (WriteFault path) = (made : Made) × IsMadeOf masters made
+    × (((path.now ≡ command.out) × IsCutShort command.out made.bytes old new × (said_new ≡ said_old))
+    ⊎ ((path.now ≡ codes "-") × (new ≡ put old command.out made.bytes) × SaysFront risen made.summary said_old said_new))
 FailsItself command (Err _) risen old new said_old said_new (WriteFault path) = ⊥
 FailsItself command _ risen old new said_old said_new _ = Unit {0}
 
@@ -41,7 +40,7 @@ abbrev pub IsCutItself : Option Tuples → Files → Type 0 → Files → Files 
 IsCutItself None files risen old new said_old said_new (WriteFault path) = ⊥
 IsCutItself None files risen old new said_old said_new _ = Unit {0}
 IsCutItself (Some command) files risen old new said_old said_new ending =
-    FailsItself command (drawings_of files command) risen old new said_old said_new ending
+    FailsItself command (masters_of files command) risen old new said_old said_new ending
 
 -- X is the sources, Y the outputs and Z the place where text is said, each old as the call begins and new as it
 -- ends. Their members are those of Sources, Outputs and Say. The fields are named as the clauses of `run` that rest on
@@ -61,6 +60,6 @@ pub record Performs {X Y Z : Type 0}
   pub said_itself : tells x → tells_said z → IsSaidItself command (sources x) (HasRisen (say_faults z) (say_faults z')) (said z) (said z') ending
   pub cut : tells x → tells_outputs y → tells_said z → IsCutItself command (sources x) (HasRisen (say_faults z) (say_faults z')) (outputs y) (outputs y') (said z) (said z') ending
   pub draws : tells x → tells_outputs y → status_of ending ≡ status.Ok → Draws command (sources x) (outputs y')
-  pub complete_sure : tells x → reads_surely x → tells_outputs y → writes_surely y → tells_said z → says_surely z → HasDrawings command (sources x) → EndsBy (LacksRoom command (sources x) (room y) (say_room z) (said z)) (status_of ending)
+  pub complete_sure : tells x → reads_surely x → tells_outputs y → writes_surely y → tells_said z → says_surely z → HasMasters command (sources x) → EndsBy (LacksRoom command (sources x) (room y) (say_room z) (said z)) (status_of ending)
   pub told : tells_said z → tells_said z'
   pub counted : say_faults z ≤ say_faults z'

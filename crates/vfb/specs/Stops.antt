@@ -1,10 +1,12 @@
--- How reading the drawings of a command may stop, and what it makes of the sources.
-use Rattle.std.specs.Prelude.{◌≡◌, ℕ, ◌≤◌, List, Result, Err}
+-- How making the data of a command's glyph may stop, and what it makes of the sources.
+use Rattle.std.specs.Prelude.{◌≡◌, ℕ, ◌≤◌, ◌⊎◌, List, [], ◌∷◌, Result, Err, IsOk}
 use Rattle.outside.specs.Files.{Files, HasRisen}
 use Rattle.outside.specs.Reading.{GivesBy}
 use Rattle.outside.specs.declared.fault.Fault.{Fault}
-use Rattle.vfb.specs.declared.drawings.ReadStop.{ReadStop}
-use Rattle.vfb.specs.declared.drawings.ReadStop.TheVariants.{Refused, ReadFault, NoMemory}
+use Rattle.vfb.specs.Command.{Placed}
+use Rattle.vfb.specs.Faults.{drawing_at}
+use Rattle.vfb.specs.declared.faults.ReadStop.{ReadStop}
+use Rattle.vfb.specs.declared.faults.ReadStop.TheVariants.{Refused, ReadFault, NoMemory}
 
 -- a fault is that of the reading; a device that fails and want of memory may come before it
 abbrev pub StopsBy : {V : Type 0} → ReadStop → Result V Fault → Type 0
@@ -37,12 +39,19 @@ abbrev pub NeverFails : {V : Type 0} → Result V ReadStop → Type 0
 NeverFails (Err (ReadFault _)) = ⊥
 NeverFails _ = Unit {0}
 
+-- The path is that of one of these drawings, and where the sources tell their files, every earlier one's file is a
+-- drawing.
+abbrev pub StopsAt : Type 0 → Files → List Placed → List ℕ → Type 0
+StopsAt told files [] path = ⊥
+StopsAt told files (placed ∷ later) path =
+    (path ≡ placed.path) ⊎ ((told → IsOk (drawing_at files placed)) × StopsAt told files later path)
+
 -- X is the sources, old as the call begins and new as it ends. Its members tells, files, faults and is_sure are
--- those of Sources. The reading is what the files give.
-pub record Reads {X V : Type 0} (tells : X → Type 0) (files : X → Files) (faults : X → ℕ) (is_sure : X → Type 0) (old new : X) (IsNamed : List ℕ → Type 0) (reading : Result V Fault) (result : Result V ReadStop) : Type 0 where
+-- those of Sources. Gives is what a call gives of sources that tell their files.
+pub record Reads {X V : Type 0} (tells : X → Type 0) (files : X → Files) (faults : X → ℕ) (is_sure : X → Type 0) (old new : X) (IsNamed : List ℕ → Type 0) (Gives : Type 0) (result : Result V ReadStop) : Type 0 where
   pub told : tells old → tells new
   pub same : files new ≡ files old
-  pub gives : tells old → IsReadFrom reading result
+  pub gives : tells old → Gives
   pub counted : CountsStops (faults old) (faults new) result
   pub named : Names IsNamed result
   pub sure : is_sure old → is_sure new × NeverFails result

@@ -2,7 +2,7 @@ ghost use Rattle.std.specs.Prelude.{◌≡◌};
 ghost use Rattle.outside.specs.Said.{Says};
 ghost use Rattle.vfb.specs.Ending.{ending_of, status_of, ending_line};
 
-use crate::drawings::ReadStop;
+use crate::faults::ReadStop;
 use crate::lines::{say_no_memory, say_read_fault, say_refused, say_usage, say_write_fault};
 use crate::status::Status;
 use outside::{Failed, Fault, Say};

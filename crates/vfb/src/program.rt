@@ -2,7 +2,7 @@ ghost use Rattle.std.specs.Prelude.{◌≡◌, ℕ, ◌↔◌, ◌⊎◌, List, 
 ghost use Rattle.outside.specs.Files.{content, HasRisen};
 ghost use Rattle.vfb.specs.Command.{command_of};
 ghost use Rattle.vfb.specs.Performing.{Performs};
-ghost use Rattle.vfb.specs.Outcome.{IsAnswer, WritesNothing, IsWritten, IsSaid, IsCut, Draws, HasDrawings, LacksRoom, EndsBy};
+ghost use Rattle.vfb.specs.Outcome.{IsAnswer, WritesNothing, IsWritten, IsSaid, IsCut, Draws, HasMasters, LacksRoom, EndsBy};
 
 use crate::ending::{Ending, say_ending};
 use crate::status::Status;
@@ -67,8 +67,8 @@ pub fn run<S: Sources, O: Outputs, T: Say>(
     // The headline: what the bytes written draw.
     ensures draws { S.tells sources.old → O.tells outputs.old → result ≡ Status.Ok → Draws (command_of (map string_bytes words.now.items)) (S.files sources.old) (O.files outputs.new) }
     // Nothing gives up but for memory.
-    ensures complete { S.tells sources.old → HasDrawings (command_of (map string_bytes words.now.items)) (S.files sources.old) → ¬ (HasRisen (S.faults sources.old) (S.faults sources.new)) → ¬ (HasRisen (O.faults outputs.old) (O.faults outputs.new)) → ¬ (HasRisen (T.faults say.old) (T.faults say.new)) → EndsBy ⊥ result }
-    ensures complete_sure { S.tells sources.old → S.is_sure sources.old → O.tells outputs.old → O.is_sure outputs.old → T.tells say.old → T.is_sure say.old → HasDrawings (command_of (map string_bytes words.now.items)) (S.files sources.old) → EndsBy (LacksRoom (command_of (map string_bytes words.now.items)) (S.files sources.old) (O.room outputs.old) (T.room say.old) (T.said say.old)) result }
+    ensures complete { S.tells sources.old → HasMasters (command_of (map string_bytes words.now.items)) (S.files sources.old) → ¬ (HasRisen (S.faults sources.old) (S.faults sources.new)) → ¬ (HasRisen (O.faults outputs.old) (O.faults outputs.new)) → ¬ (HasRisen (T.faults say.old) (T.faults say.new)) → EndsBy ⊥ result }
+    ensures complete_sure { S.tells sources.old → S.is_sure sources.old → O.tells outputs.old → O.is_sure outputs.old → T.tells say.old → T.is_sure say.old → HasMasters (command_of (map string_bytes words.now.items)) (S.files sources.old) → EndsBy (LacksRoom (command_of (map string_bytes words.now.items)) (S.files sources.old) (O.room outputs.old) (T.room say.old) (T.said say.old)) result }
 {
     let ending = perform(alloc, words, sources, outputs, say);
     // A line that can't be said changes nothing.

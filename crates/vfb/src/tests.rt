@@ -10,6 +10,7 @@ use std::process::Abort;
 use std::test::Fail;
 
 mod drawn;
+mod several;
 
 /// A triangle with the corners (100, 0), (200, 0) and (100, 100).
 const TRIANGLE: &str = r#"<glyph name="a" format="2">
@@ -96,8 +97,8 @@ struct Case {
     held: Option<&'static [u8]>,
 }
 
-/// Two drawings.
-const CASES: [Case; 10] = [
+/// Drawings in two files.
+const CASES: [Case; 13] = [
     Case {
         words: WORDS,
         files: &[("a.glif", TRIANGLE), ("b.glif", MOVED)],
@@ -154,33 +155,73 @@ const CASES: [Case; 10] = [
         said: "refused NotBuilt b.glif - 0 0 0 0\n",
         held: None,
     },
+    // Two faults at once, of which the earlier in the order of the work is answered.
     Case {
-        words: &["", "tuples", "o.bin", "@0", "b.glif@16384"],
-        files: &[],
+        words: WORDS,
+        files: &[("a.glif", "?"), ("b.glif", "?")],
         status: 1,
-        said: "refused MissingFile - - 0 0 0 0\n",
+        said: "refused NotBuilt a.glif - 0 0 0 0\n",
         held: None,
     },
     Case {
-        words: &["", "tuples", "o.bin", "a@0@0", "b.glif@16384"],
-        files: &[],
+        words: &["vfb", "tuples", "o.bin", "a.glif@1", "b.glif@1"],
+        files: &[("a.glif", TRIANGLE)],
         status: 1,
-        said: "refused MissingFile a@0 - 0 0 0 0\n",
+        said: "refused MissingFile b.glif - 0 0 0 0\n",
+        held: None,
+    },
+    Case {
+        words: &["vfb", "tuples", "o.bin", "a.glif@1", "b.glif@1"],
+        files: &[("a.glif", TRIANGLE), ("b.glif", PARTED)],
+        status: 1,
+        said: "refused NoDefaultSource - - 0 0 0 0\n",
+        held: None,
+    },
+    Case {
+        words: &["vfb", "tuples", "o.bin", "a.glif@5", "b.glif@0", "a.glif@5", "b.glif@0"],
+        files: &[("a.glif", TRIANGLE), ("b.glif", PARTED)],
+        status: 1,
+        said: "refused SameLocation - - 0 2 0 0\n",
+        held: None,
+    },
+    Case {
+        words: &["vfb", "tuples", "o.bin", "a.glif@5", "b.glif@0"],
+        files: &[("a.glif", TRIANGLE), ("b.glif", PARTED)],
+        status: 1,
+        said: "refused NotBuilt a.glif - 0 0 0 0\n",
         held: None,
     },
 ];
 
 /// Words that are those of no command.
-const USAGES: [&[&str]; 9] = [
+const USAGES: [&[&str]; 16] = [
     &[],
     &["vfb"],
-    &["vfb", "tuples", "o.bin", "a.glif@0"],
-    &["vfb", "tuples", "o.bin", "a.glif@0", "b.glif@16384", "c@0"],
+    &["vfb", "tuples"],
+    &["vfb", "tuples", "o.bin"],
     &["vfb", "build", "o.bin", "a.glif@0", "b.glif@16384"],
-    &["vfb", "tuples", "o.bin", "a.glif@16384", "b.glif@0"],
-    &["vfb", "tuples", "o.bin", "a.glif@0", "b.glif@016384"],
-    &["vfb", "tuples", "o.bin", "a.glif@+0", "b.glif@16384"],
-    &["vfb", "tuples", "o.bin", "a.glif", "b.glif@16384"],
+    &["vfb", "tuples", "o.bin", "a.glif@0", "b.glif"],
+    &["vfb", "tuples", "o.bin", "a@"],
+    &["vfb", "tuples", "o.bin", "a@x"],
+    &["vfb", "tuples", "o.bin", "a@0.5"],
+    &["vfb", "tuples", "o.bin", "a@1,"],
+    &["vfb", "tuples", "o.bin", "a@,1"],
+    &["vfb", "tuples", "o.bin", "a@16385"],
+    &["vfb", "tuples", "o.bin", "a@-16385"],
+    &["vfb", "tuples", "o.bin", "a@0", "b@0,1"],
+    &["vfb", "tuples", "o.bin", "a@0,0", "b@1"],
+    &["vfb", "tuples", "o.bin", "a@0,0,0,0,0,0,0,0,0"],
+];
+
+/// Words of a command, and the path of its first drawing.
+const PATHS: [(&[&str], &str); 4] = [
+    (&["vfb", "tuples", "o.bin", "a@+1.0,-2.00"], "a"),
+    (&["", "tuples", "o.bin", "a@b@ 0\n"], "a@b"),
+    (&["", "tuples", "o.bin", "@-016384.0"], "-"),
+    (
+        &["", "tuples", "o.bin", "a@0,0,0,0,0,0,0,16384", "b@0,0,0,0,0,0,0,0"],
+        "a",
+    ),
 ];
 
 /// Words of their own.
@@ -231,7 +272,7 @@ fn check(
 }
 
 #[test]
-fn answers_for_two_drawings(rt: HostRuntime) -> Result<(), Fail> {
+fn answers_for_words_and_files(rt: HostRuntime) -> Result<(), Fail> {
     let alloc = rt.alloc();
     for case in &CASES {
         check(
@@ -246,6 +287,10 @@ fn answers_for_two_drawings(rt: HostRuntime) -> Result<(), Fail> {
     }
     for words in USAGES {
         check(&rt, alloc, words, &[], 2, "usage words\n", None)?;
+    }
+    for (words, path) in PATHS {
+        let said = format!(in alloc; "refused MissingFile {path} - 0 0 0 0\n")?;
+        check(&rt, alloc, words, &[], 1, said.as_str(), None)?;
     }
     Ok(())
 }

@@ -1,14 +1,14 @@
-ghost use Rattle.std.specs.Prelude.{Some};
+ghost use Rattle.std.specs.Prelude.{Some, map};
+ghost use Rattle.vfb.specs.Making.{ArePlaced};
 ghost use Rattle.vfb.specs.Performing.{Performs};
-ghost use Rattle.vfb.specs.Words.{asked};
+ghost use Rattle.vfb.specs.Words.{asked, seen};
 ghost use Rattle.vfb.specs.Writing.{WritesFile};
 
-use crate::deltas::data_of;
-use crate::drawings::read_drawings;
 use crate::ending::Ending;
+use crate::glyph::make_data;
 use crate::lines::say_counts;
 use crate::words::Command;
-use outside::{Failed, NoMemory, Outputs, Say, Sources};
+use outside::{Failed, Outputs, Say, Sources};
 use std::alloc::Global;
 
 /// Writes the bytes to the path in one piece.
@@ -21,7 +21,7 @@ fn write_file<O: Outputs>(outputs: &mut O, path: &str, bytes: &[u8]) -> Result<(
     }
 }
 
-/// Writes the variation data of two drawings.
+/// Writes the variation data of a command's glyph.
 pub(crate) fn tuples<'a, S: Sources, O: Outputs, T: Say>(
     alloc: Global,
     command: &Command<'a>,
@@ -29,15 +29,12 @@ pub(crate) fn tuples<'a, S: Sources, O: Outputs, T: Say>(
     outputs: &mut O,
     say: &mut T,
 ) -> Ending<'a>
+    requires { ArePlaced (map seen command.now.drawings.items) }
     ensures { Performs S.tells S.files S.faults S.is_sure O.tells O.files O.faults O.is_sure O.room T.tells T.said T.faults T.is_sure T.room sources.old sources.new outputs.old outputs.new say.old say.new (Some (asked command.now)) result }
 {
-    let (first, second) = match read_drawings(alloc, command, sources) {
-        Ok(drawings) => drawings,
-        Err(stop) => return Ending::from_stop(stop),
-    };
-    let data = match data_of(alloc, &first, &second) {
+    let data = match make_data(alloc, command, sources) {
         Ok(data) => data,
-        Err(NoMemory) => return Ending::NoMemory,
+        Err(stop) => return Ending::from_stop(stop),
     };
     match write_file(outputs, command.out, data.bytes.as_slice()) {
         Ok(()) => {}

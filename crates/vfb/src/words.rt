@@ -1,23 +1,111 @@
-ghost use Rattle.std.specs.Prelude.{◌≡◌, map, string_bytes, option_map};
-ghost use Rattle.vfb.specs.Command.{command_of, path_before};
-ghost use Rattle.vfb.specs.Words.{asked};
+ghost use Rattle.std.specs.Prelude.{◌≡◌, ◌≤◌, ◌⊎◌, [], ◌∷◌, ◌++◌, length, map, string_bytes, option_map, None, MatchOption, IsSomeAnd, nat_eq};
+ghost use Rattle.std.specs.List.{list_all};
+ghost use Rattle.vfb.specs.Command.{coordinate_of, place_of, placed_of, are_on_axes, drawings_named, command_of};
+ghost use Rattle.vfb.specs.Words.{seen, asked};
 
-/// What the words of a call ask for: the paths that they name.
-#[derive(Clone, Copy)]
+use arrayvec::ArrayVec;
+use fixpoint::{Fix, parse_whole};
+use region_support::Location;
+
+/// A drawing that the words name.
+#[derive(Default, Drop)]
+pub(crate) struct Placed<'a> {
+    /// The path of its file.
+    pub(crate) path: &'a str,
+    /// Where in the design space it stands.
+    pub(crate) at: Location,
+}
+
+/// What the words of a call ask for.
+#[derive(Drop)]
 pub(crate) struct Command<'a> {
     /// The file to write.
     pub(crate) out: &'a str,
-    /// The drawing at the default.
-    pub(crate) first: &'a str,
-    /// The drawing at the end of the axis.
-    pub(crate) second: &'a str,
+    /// The drawings, of which there may be so many.
+    pub(crate) drawings: ArrayVec<Placed<'a>, 128>,
 }
 
-/// The path in front of a place such as `@0`, where the word ends in it.
-fn path_before<'a>(place: &str, word: &'a str) -> Option<&'a str>
-    ensures { option_map (λ path. path.now) result ≡ path_before place.now word.now }
+/// A coordinate from -1 to 1 in F2DOT14, as a whole number from -16,384 to 16,384.
+#[tactic(auto, unfolding(crate::specs::Command::coordinate_of))]
+fn coordinate_of(text: &str) -> Option<Fix<14>>
+    ensures { result ≡ coordinate_of text.now }
 {
-    word.strip_suffix(place)
+    match parse_whole(text) {
+        Ok(raw) if -16_384 <= raw && raw <= 16_384 => Some(Fix::from_raw(raw)),
+        _ => None,
+    }
+}
+
+/// Adds a coordinate to a place of fewer than eight.
+fn add_coordinate(at: &mut Location, text: &str) -> Option<()>
+    ensures { MatchOption result ((coordinate_of text.now ≡ None) ⊎ (length at.old.items ≡ 8)) (λ _. IsSomeAnd (coordinate_of text.now) (λ value. at.new.items ≡ at.old.items ++ value ∷ []) × (length at.new.items ≤ 8)) }
+{
+    let coordinate = coordinate_of(text)?;
+    match at.try_push(coordinate) {
+        Ok(()) => Some(()),
+        Err(_) => None,
+    }
+}
+
+/// Coordinates of at most eight axes, with commas between them.
+fn place_of(text: &str) -> Option<Location>
+    ensures { option_map (λ at. at.items) result ≡ place_of text.now }
+{
+    let mut at = Location::new();
+    let mut rest = text;
+    while let Some((first, more)) = rest.split_once(',') {
+        add_coordinate(&mut at, first)?;
+        rest = more;
+    }
+    add_coordinate(&mut at, rest)?;
+    Some(at)
+}
+
+/// The drawing that a word names: a path, and behind its last `@` the place.
+fn placed_of(word: &str) -> Option<Placed<'_>>
+    ensures { option_map seen result ≡ placed_of word.now }
+{
+    let (path, place) = word.rsplit_once('@')?;
+    Some(Placed {
+        path,
+        at: place_of(place)?,
+    })
+}
+
+/// Whether all drawings stand on so many axes.
+fn have_axes(drawings: &[Placed<'_>], axes: usize) -> bool
+    ensures { result ≡ list_all (λ placed. nat_eq (length placed.at.items) axes) drawings.now }
+{
+    drawings.iter().all(|placed| placed.at.len() == axes)
+}
+
+/// Whether there are drawings, and all stand on the axes of the first.
+fn are_on_axes(drawings: &[Placed<'_>]) -> bool
+    ensures { result ≡ are_on_axes (map seen drawings.now) }
+{
+    match drawings {
+        [] => false,
+        [first, more @ ..] => have_axes(more, first.at.len()),
+    }
+}
+
+/// The drawings that the words name, at most 128, all on the same axes.
+fn drawings_named(words: &[String]) -> Option<ArrayVec<Placed<'_>, 128>>
+    ensures { option_map (λ drawings. map seen drawings.items) result ≡ drawings_named (map string_bytes words.now) }
+{
+    let mut drawings = ArrayVec::new();
+    for word in words {
+        let placed = placed_of(word.as_str())?;
+        match drawings.try_push(placed) {
+            Ok(()) => {}
+            Err(_) => return None,
+        }
+    }
+    if are_on_axes(drawings.as_slice()) {
+        Some(drawings)
+    } else {
+        None
+    }
 }
 
 /// The command that the words are, of which the first is the program's name.
@@ -25,10 +113,9 @@ pub(crate) fn parse(words: &[String]) -> Option<Command<'_>>
     ensures { option_map asked result ≡ command_of (map string_bytes words.now) }
 {
     match words {
-        [_, name, out, first, second] if name.as_str() == "tuples" => Some(Command {
+        [_, name, out, words @ ..] if name.as_str() == "tuples" => Some(Command {
             out: out.as_str(),
-            first: path_before("@0", first.as_str())?,
-            second: path_before("@16384", second.as_str())?,
+            drawings: drawings_named(words)?,
         }),
         _ => None,
     }

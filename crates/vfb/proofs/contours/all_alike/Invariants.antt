@@ -1,0 +1,7 @@
+use Rattle.std.proofs.Common.{◌≡◌, map, drop}
+use Rattle.vfb.specs.Masters.{all_alike}
+use Rattle.vfb.specs.Words.{seen}
+use Rattle.vfb.proofs.contours.all_alike.Given as goal
+
+abbrev pub invariant-loop-index : goal.invariant-loop-index
+invariant-loop-index l = all_alike l.default (map seen l.placed) l.drawings ≡ all_alike l.default (map seen (drop l.index l.placed)) (drop l.index l.drawings)

@@ -1,0 +1,126 @@
+-- The masters of a glyph that a command's drawings are, in their order, or the first fault.
+use Rattle.std.specs.Prelude.{◌≡◌, ℕ, ℤ, pos, ◌≤◌, Bool, List, [], ◌∷◌, length, map, All, Option, Some, Result, Ok, Err, if◌then◌else◌, slice_index_or}
+use Rattle.std.specs.Bool.{beq}
+use Rattle.std.specs.Cmp.Lexicographic.{pointwise}
+use Rattle.outside.specs.Files.{Files}
+use Rattle.outside.specs.Reading.{◌>>=◌}
+use Rattle.outside.specs.declared.fault.Kind.{Kind}
+use Rattle.outside.specs.declared.fault.Kind.TheVariants.{NotBuilt, NoDefaultSource, SameLocation, DeltaRange}
+use Rattle.outside.specs.declared.fault.Fault.{Fault}
+use Rattle.glif.specs.Limits.{IsWithinLimits}
+use Rattle.glif.specs.declared.shape.Outline.{Outline}
+use Rattle.glif.specs.declared.shape.Drawing.{Drawing}
+use Rattle.region_support.specs.MasterOrder.{AreMasters, axes_of}
+use Rattle.region_support.specs.Sorting.{model_fault, order_of, places_at}
+use Rattle.region_support.specs.Regions.{regions_of, AreNormalisedPlaces}
+use Rattle.region_support.specs.declared.sorting.ModelStop.{ModelStop}
+use Rattle.region_support.specs.declared.sorting.ModelStop.TheVariants as model
+use Rattle.delta_solve.specs.Outlines.{contour_kinds}
+use Rattle.delta_solve.specs.GlyphModels.{AreAlike, delta_fault}
+use Rattle.delta_solve.specs.declared.model.DeltaStop.{DeltaStop}
+use Rattle.delta_solve.specs.declared.model.DeltaStop.TheVariants as delta
+use Rattle.vfb.specs.Command.{Placed, Tuples}
+use Rattle.vfb.specs.Faults.{file_fault, drawings_of}
+
+-- The masters of a glyph in their order, the default first: its name, which is the default's, the location of each
+-- master, and what it draws.
+pub record Masters : Type 0 where
+  pub name : List ℕ
+  pub locations : List (List ℤ)
+  pub outlines : List Outline
+
+-- ---- the places
+
+-- a fault of the drawings' places, which has no path
+abbrev pub place_fault : Kind → ℕ → ℕ → Fault
+place_fault kind at also = record {
+  path = [];
+  spot = record { kind = kind; item = []; at = at; also = also; first = pos 0; second = pos 0 };
+}
+
+abbrev pub order_or : Option ModelStop → List ℕ → Result (List ℕ) Fault
+order_or (Some model.NoDefault) order = Err (place_fault NoDefaultSource 0 0)
+order_or (Some (model.SameLocation first second)) order = Err (place_fault SameLocation first second)
+order_or _ order = Ok order
+
+-- the numbers of the drawings in the order of masters
+abbrev pub ordered : List (List ℤ) → Result (List ℕ) Fault
+ordered places = order_or (model_fault places) (order_of places)
+
+-- ---- the contours
+
+-- two drawings have as many contours, with as many points of the same kinds
+abbrev pub are_alike : Outline → Outline → Bool
+are_alike a b = pointwise (pointwise beq) (contour_kinds a) (contour_kinds b)
+
+-- all are like the default; else the file of the first that isn't is refused
+abbrev pub all_alike : Outline → List Placed → List Drawing → Result (Unit {0}) Fault
+all_alike default (placed ∷ more) (drawing ∷ others) =
+    if are_alike default drawing.outline then all_alike default more others else Err (file_fault NotBuilt placed.path)
+all_alike default _ _ = Ok tt
+
+-- ---- the masters
+
+abbrev pub nothing_drawn : Drawing
+nothing_drawn = record { name = []; outline = record { advance = pos 0; contours = [] }; components = []; codes = [] }
+
+abbrev pub drawing_numbered : List Drawing → ℕ → Drawing
+drawing_numbered drawings number = slice_index_or drawings number nothing_drawn
+
+-- that of the default, whose number is the first in order
+abbrev pub default_drawing : List Drawing → List ℕ → Drawing
+default_drawing drawings order = drawing_numbered drawings (slice_index_or order 0 0)
+
+abbrev pub masters_in : List (List ℤ) → List Drawing → List ℕ → Masters
+masters_in places drawings order = record {
+  name = (default_drawing drawings order).name;
+  locations = places_at places order;
+  outlines = map (λ number. (drawing_numbered drawings number).outline) order;
+}
+
+abbrev pub places_of_drawings : List Placed → List (List ℤ)
+places_of_drawings placed = map (λ (one : Placed). one.at) placed
+
+-- the masters that the drawings are, as they stand
+abbrev pub gathered : List Placed → List Drawing → Result Masters Fault
+gathered placed drawings =
+    ordered (places_of_drawings placed) >>= λ order.
+    all_alike (default_drawing drawings order).outline placed drawings >>= λ _.
+    Ok (masters_in (places_of_drawings placed) drawings order)
+
+-- ---- the deltas
+
+-- a delta that doesn't fit 16 bits: the glyph, the point, 1 for y, the master's number in order, and the delta
+abbrev pub range_fault : List ℕ → ℕ → ℕ → Bool → ℤ → Fault
+range_fault name master point y value = record {
+  path = [];
+  spot = record { kind = DeltaRange; item = name; at = point; also = if y then 1 else 0; first = pos master; second = value };
+}
+
+abbrev pub masters_or : Option DeltaStop → Masters → Result Masters Fault
+masters_or (Some (delta.DeltaRange master point y value)) masters = Err (range_fault masters.name master point y value)
+masters_or _ masters = Ok masters
+
+-- the masters, where all their deltas fit
+abbrev pub fitting : Masters → Result Masters Fault
+fitting masters = masters_or (delta_fault (regions_of masters.locations) masters.locations masters.outlines) masters
+
+-- The masters of a command's glyph, or the first fault: that of the first file that has one, of the places, of the
+-- first drawing that isn't like the default, and of the first delta that doesn't fit.
+abbrev pub masters_of : Files → Tuples → Result Masters Fault
+masters_of files command =
+    drawings_of files command.drawings >>= λ drawings.
+    gathered command.drawings drawings >>= λ masters.
+    fitting masters
+
+-- ---- what holds of masters that were gathered
+
+pub record AreGathered (masters : Masters) : Type 0 where
+  pub ordered : AreMasters (axes_of masters.locations) masters.locations
+  pub some_axes : 1 ≤ axes_of masters.locations
+  pub few_axes : axes_of masters.locations ≤ 8
+  pub normalised : AreNormalisedPlaces masters.locations
+  pub few : length masters.locations ≤ 128
+  pub one_each : length masters.outlines ≡ length masters.locations
+  pub within : All IsWithinLimits masters.outlines
+  pub alike : AreAlike masters.outlines

@@ -1,0 +1,125 @@
+ghost use Rattle.std.specs.Prelude.{◌≡◌, IfOk, MatchResult};
+ghost use Rattle.vfb.specs.Faults.{file_fault};
+ghost use Rattle.vfb.specs.Masters.{place_fault, range_fault};
+ghost use Rattle.vfb.specs.Stops.{Refuses};
+
+use outside::{Fault, Kind, Name, NoMemory, Spot};
+use std::alloc::Global;
+
+/// Why the data of a glyph could not be made.
+#[derive(Drop)]
+pub(crate) enum ReadStop<'a> {
+    /// The files or the words have this fault.
+    Refused(Fault),
+    /// The file at this path could not be read.
+    ReadFault(&'a str),
+    /// Memory ran out.
+    NoMemory,
+}
+
+impl<'a> From<NoMemory> for ReadStop<'a> {
+    ghost use Rattle.vfb.specs.declared.faults.ReadStop.TheVariants.{NoMemory};
+
+    ghost from_gives = { λ _ stop. stop ≡ NoMemory };
+
+    fn from(_: NoMemory) -> ReadStop<'a> {
+        ReadStop::NoMemory
+    }
+}
+
+/// Stops with the fault, where memory has it.
+fn stop_with<'a>(fault: Result<Fault, NoMemory>) -> ReadStop<'a>
+    ensures { MatchResult fault (λ found. result ≡ ReadStop.Refused found) (λ _. result ≡ ReadStop.NoMemory) }
+{
+    match fault {
+        Ok(fault) => ReadStop::Refused(fault),
+        Err(NoMemory) => ReadStop::NoMemory,
+    }
+}
+
+/// A fault of the file at `path` as a whole.
+fn file_fault(alloc: Global, kind: Kind, path: &str) -> Result<Fault, NoMemory>
+    ensures { IfOk result (λ fault. fault ≡ file_fault kind path.now) }
+{
+    Ok(Fault {
+        path: Name::from_str(alloc, path)?,
+        spot: Spot {
+            kind,
+            item: Name::from_str(alloc, "")?,
+            at: 0,
+            also: 0,
+            first: 0,
+            second: 0,
+        },
+    })
+}
+
+/// Stops with a fault of the file at `path`.
+pub(crate) fn refuse_file<'a>(alloc: Global, kind: Kind, path: &str) -> ReadStop<'a>
+    ensures { Refuses (file_fault kind path.now) result }
+{
+    stop_with(file_fault(alloc, kind, path))
+}
+
+/// A fault of the places of the drawings with these two numbers.
+fn place_fault(alloc: Global, kind: Kind, at: u32, also: u32) -> Result<Fault, NoMemory>
+    ensures { IfOk result (λ fault. fault ≡ place_fault kind at also) }
+{
+    Ok(Fault {
+        path: Name::from_str(alloc, "")?,
+        spot: Spot {
+            kind,
+            item: Name::from_str(alloc, "")?,
+            at: u64::from(at),
+            also: u64::from(also),
+            first: 0,
+            second: 0,
+        },
+    })
+}
+
+/// Stops with a fault of the places of the drawings with these two numbers.
+pub(crate) fn refuse_places<'a>(alloc: Global, kind: Kind, at: u32, also: u32) -> ReadStop<'a>
+    ensures { Refuses (place_fault kind at also) result }
+{
+    stop_with(place_fault(alloc, kind, at, also))
+}
+
+/// A delta of the glyph with this name that doesn't fit 16 bits: that of a point's x or y, for the
+/// master with this number in the order of masters.
+fn range_fault(
+    alloc: Global,
+    name: &Name,
+    master: u32,
+    point: u32,
+    y: bool,
+    value: i64,
+) -> Result<Fault, NoMemory>
+    ensures { IfOk result (λ fault. fault ≡ range_fault name.now master point y value) }
+{
+    Ok(Fault {
+        path: Name::from_str(alloc, "")?,
+        spot: Spot {
+            kind: Kind::DeltaRange,
+            item: name.try_copy(alloc)?,
+            at: u64::from(point),
+            also: if y { 1 } else { 0 },
+            first: i64::from(master),
+            second: value,
+        },
+    })
+}
+
+/// Stops with a delta that doesn't fit 16 bits.
+pub(crate) fn refuse_delta<'a>(
+    alloc: Global,
+    name: &Name,
+    master: u32,
+    point: u32,
+    y: bool,
+    value: i64,
+) -> ReadStop<'a>
+    ensures { Refuses (range_fault name.now master point y value) result }
+{
+    stop_with(range_fault(alloc, name, master, point, y, value))
+}

@@ -1,0 +1,125 @@
+ghost use Rattle.std.specs.Prelude.{◌≡◌, ◌+◌, map, All, IfOk};
+ghost use Rattle.outside.specs.Reading.{GivesBy};
+ghost use Rattle.region_support.specs.MasterOrder.{axes_of};
+ghost use Rattle.region_support.specs.Places.{places_of, regions_in};
+ghost use Rattle.delta_solve.specs.GlyphModels.{IsModelOf, IsTupleWithin};
+ghost use Rattle.delta_solve.specs.declared.model.GlyphModel.{GlyphModel};
+ghost use Rattle.glyph_variations.specs.Conditions.{AreGlyphTuples, point_count};
+ghost use Rattle.vfb.specs.Glyph.{regions};
+ghost use Rattle.vfb.specs.Making.{ArePlaced, Makes, shown};
+ghost use Rattle.vfb.specs.Masters.{AreGathered, fitting, masters_of};
+ghost use Rattle.vfb.specs.Stops.{NeverFails, Reads, StopsAt, StopsBy};
+ghost use Rattle.vfb.specs.Words.{asked, seen};
+
+use crate::drawings::read_drawings;
+use crate::faults::{ReadStop, refuse_delta};
+use crate::masters::{Masters, gather};
+use crate::words::Command;
+use delta_solve::{DeltaStop, GlyphModel, solve_glyph, table};
+use glyph_variations::variations;
+use gvar_table::glyph_data;
+use outside::{Seq, Sources};
+use region_support::{Support, boxes};
+use std::alloc::Global;
+
+/// The phantom points that a glyph has behind its outline's (OpenType, "glyf").
+const PHANTOM_POINTS: u16 = 4;
+
+/// The variation data of a glyph, and what they hold.
+#[derive(Drop)]
+pub(crate) struct GlyphData {
+    /// The data, empty where nothing moves.
+    pub(crate) bytes: Vec<u8>,
+    /// The number of tuples.
+    pub(crate) tuples: u64,
+    /// The number of outline points that the tuples name.
+    pub(crate) explicit: u64,
+    /// The number of outline points that there are, added up over the tuples.
+    pub(crate) points: u64,
+}
+
+/// How many axes the masters' locations have.
+fn axis_count(masters: &Masters) -> u32
+    ensures { result ≡ axes_of (places_of masters.now.locations) }
+{
+    match masters.locations.as_slice() {
+        [at, ..] => at.len() as u32,
+        [] => 0,
+    }
+}
+
+/// How many points the glyph has, its four phantom points among them.
+fn all_count(model: &GlyphModel) -> u16
+    requires { AreGlyphTuples model.now.tuples }
+    ensures { result ≡ point_count model.now.tuples + 4 }
+{
+    match model.tuples.as_slice() {
+        [default, ..] => default.deltas.len() as u16 + PHANTOM_POINTS,
+        [] => PHANTOM_POINTS,
+    }
+}
+
+/// The model of masters with these regions, or the first delta that doesn't fit 16 bits.
+fn model_of<'a>(
+    alloc: Global,
+    masters: &Masters,
+    supports: &Seq<Support>,
+) -> Result<GlyphModel, ReadStop<'a>>
+    requires gathered { AreGathered (shown masters.now) }
+    requires regions { regions_in supports.now ≡ regions (shown masters.now) }
+    ensures fits { GivesBy StopsBy (λ (_ : GlyphModel). shown masters.now) result (fitting (shown masters.now)) }
+    ensures never { NeverFails result }
+    ensures model { IfOk result (IsModelOf (regions (shown masters.now)) (places_of masters.now.locations) masters.now.outlines) }
+    ensures within { IfOk result (λ model. All IsTupleWithin model.tuples) }
+{
+    let table = table(alloc, supports, &masters.locations)?;
+    match solve_glyph(alloc, &masters.outlines, &table) {
+        Ok(model) => Ok(model),
+        Err(
+            DeltaStop::DeltaRange {
+                master,
+                point,
+                y,
+                value,
+            },
+        ) => Err(refuse_delta(alloc, &masters.name, master, point, y, value)),
+        Err(DeltaStop::NoMemory) => Err(ReadStop::NoMemory),
+    }
+}
+
+/// The variation data of the masters.
+fn data_of<'a>(alloc: Global, masters: &Masters) -> Result<GlyphData, ReadStop<'a>>
+    requires { AreGathered (shown masters.now) }
+    ensures makes { Makes (fitting (shown masters.now)) result }
+    ensures never { NeverFails result }
+{
+    let supports = boxes(alloc, &masters.locations)?;
+    let model = match model_of(alloc, masters, &supports) {
+        Ok(model) => model,
+        Err(stop) => return Err(stop),
+    };
+    let found = variations(alloc, &model, &supports)?;
+    let bytes = glyph_data(alloc, axis_count(masters), all_count(&model), &found.tuples)?;
+    Ok(GlyphData {
+        bytes,
+        tuples: found.tuples.len() as u64,
+        explicit: found.explicit,
+        points: found.points,
+    })
+}
+
+/// Reads the drawings of a command, and makes the variation data of the glyph whose masters they are.
+pub(crate) fn make_data<'a, S: Sources>(
+    alloc: Global,
+    command: &Command<'a>,
+    sources: &mut S,
+) -> Result<GlyphData, ReadStop<'a>>
+    requires { ArePlaced (map seen command.now.drawings.items) }
+    ensures { Reads S.tells S.files S.faults S.is_sure sources.old sources.new (StopsAt (S.tells sources.old) (S.files sources.old) (map seen command.now.drawings.items)) (Makes (masters_of (S.files sources.old) (asked command.now)) result) result }
+{
+    let placed = command.drawings.as_slice();
+    let drawings = read_drawings(alloc, placed, sources)?;
+    let masters = gather(alloc, placed, drawings.as_slice())?;
+    let data = data_of(alloc, &masters)?;
+    Ok(data)
+}

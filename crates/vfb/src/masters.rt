@@ -1,0 +1,138 @@
+ghost use Rattle.std.specs.Prelude.{◌≡◌, ◌<◌, ◌≤◌, length, map, All, IfOk};
+ghost use Rattle.outside.specs.Reading.{GivesBy};
+ghost use Rattle.glif.specs.Limits.{IsWithinLimits};
+ghost use Rattle.glif.specs.declared.shape.Drawing.{Drawing};
+ghost use Rattle.arrayvec.specs.ArrayVec.{array_vec_len};
+ghost use Rattle.region_support.specs.MasterOrder.{axes_of};
+ghost use Rattle.region_support.specs.Places.{places_of};
+ghost use Rattle.region_support.specs.Sorting.{IsOrder};
+ghost use Rattle.vfb.specs.Making.{ArePlaced, shown};
+ghost use Rattle.vfb.specs.Masters.{AreGathered, drawing_numbered, gathered, masters_in, ordered, places_of_drawings};
+ghost use Rattle.vfb.specs.Stops.{StopsBy, IsReadFrom, NeverFails};
+ghost use Rattle.vfb.specs.Words.{seen};
+
+use crate::contours::all_alike;
+use crate::faults::{ReadStop, refuse_places};
+use crate::words::Placed;
+use glif::{Drawing, Outline, Point};
+use outside::{Kind, Name, NoMemory, Seq};
+use region_support::{Location, ModelStop, in_order, order};
+use std::alloc::Global;
+
+/// The masters of a glyph in their order, the default first.
+#[derive(Drop)]
+pub(crate) struct Masters {
+    /// The glyph's name, which is that of the default's drawing.
+    pub(crate) name: Name,
+    /// Where each master stands.
+    pub(crate) locations: Seq<Location>,
+    /// What each draws.
+    pub(crate) outlines: Seq<Outline>,
+}
+
+/// An equal place of its own.
+fn copy_place(at: &Location) -> Result<Location, NoMemory>
+    ensures { IfOk result (λ copy. copy.items ≡ at.now.items) }
+{
+    Ok(at.clone()?)
+}
+
+/// Where the drawings stand, in the order of the words.
+fn places_of(alloc: Global, placed: &[Placed<'_>]) -> Result<Seq<Location>, NoMemory>
+    ensures { IfOk result (λ places. places_of places ≡ places_of_drawings (map seen placed.now)) }
+{
+    let mut places = Vec::new(alloc);
+    for one in placed {
+        places.push(copy_place(&one.at)?)?;
+    }
+    Ok(Seq::from_vec(places))
+}
+
+/// The numbers of the drawings at these places, in the order of masters.
+fn ordered<'a>(alloc: Global, places: &Seq<Location>) -> Result<Seq<u32>, ReadStop<'a>>
+    requires lengths { All (λ at. array_vec_len at ≡ axes_of (places_of places.now)) places.now }
+    requires few { length places.now ≤ 128 }
+    ensures order { IsReadFrom (ordered (places_of places.now)) result }
+    ensures never { NeverFails result }
+    ensures masters { IfOk result (IsOrder (places_of places.now)) }
+{
+    match order(alloc, places) {
+        Ok(order) => Ok(order),
+        Err(ModelStop::NoDefault) => Err(refuse_places(alloc, Kind::NoDefaultSource, 0, 0)),
+        Err(ModelStop::SameLocation(first, second)) => {
+            Err(refuse_places(alloc, Kind::SameLocation, first, second))
+        }
+        Err(ModelStop::NoMemory) => Err(ReadStop::NoMemory),
+    }
+}
+
+/// An equal outline of its own.
+fn copy_of(alloc: Global, outline: &Outline) -> Result<Outline, NoMemory>
+    ensures { IfOk result (λ copy. copy ≡ outline.now) }
+{
+    let mut contours: Vec<Seq<Point>> = Vec::new(alloc);
+    for contour in outline.contours.as_slice() {
+        contours.push(Seq::from_vec(Vec::from_slice(alloc, contour.as_slice())?))?;
+    }
+    Ok(Outline {
+        advance: outline.advance,
+        contours: Seq::from_vec(contours),
+    })
+}
+
+/// What the drawings of these numbers draw, in their order.
+fn outlines_in(alloc: Global, drawings: &[Drawing], order: &[u32]) -> Result<Seq<Outline>, NoMemory>
+    requires { All (λ number. number < length drawings.now) order.now }
+    ensures { IfOk result (λ outlines. outlines ≡ map (λ number. (drawing_numbered drawings.now number).outline) order.now) }
+{
+    let mut outlines = Vec::new(alloc);
+    for number in order {
+        outlines.push(copy_of(alloc, &drawings[*number as usize].outline)?)?;
+    }
+    Ok(Seq::from_vec(outlines))
+}
+
+/// The masters that the drawings at these places are, in their order.
+fn masters_in(
+    alloc: Global,
+    places: &Seq<Location>,
+    drawings: &[Drawing],
+    order: &Seq<u32>,
+) -> Result<Masters, NoMemory>
+    requires one_each { length drawings.now ≡ length places.now }
+    requires order { IsOrder (places_of places.now) order.now }
+    ensures { IfOk result (λ masters. shown masters ≡ masters_in (places_of places.now) drawings.now order.now) }
+{
+    let locations = in_order(alloc, places, order)?;
+    let numbers = order.as_slice();
+    Ok(Masters {
+        name: drawings[numbers[0] as usize].name.try_copy(alloc)?,
+        locations,
+        outlines: outlines_in(alloc, drawings, numbers)?,
+    })
+}
+
+/// The masters that the drawings are, one for each that the words place: in their order, all with
+/// contours like the default's.
+pub(crate) fn gather<'a>(
+    alloc: Global,
+    placed: &[Placed<'a>],
+    drawings: &[Drawing],
+) -> Result<Masters, ReadStop<'a>>
+    requires placed { ArePlaced (map seen placed.now) }
+    requires one_each { length drawings.now ≡ length placed.now }
+    requires within { All (λ (drawing : Drawing). IsWithinLimits drawing.outline) drawings.now }
+    ensures gathers { GivesBy StopsBy shown result (gathered (map seen placed.now) drawings.now) }
+    ensures never { NeverFails result }
+    ensures gathered { IfOk result (λ masters. AreGathered (shown masters)) }
+{
+    let places = places_of(alloc, placed)?;
+    let order = ordered(alloc, &places)?;
+    let default = &drawings[order.as_slice()[0] as usize].outline;
+    match all_alike(alloc, default, placed, drawings) {
+        Ok(()) => {}
+        Err(stop) => return Err(stop),
+    }
+    let masters = masters_in(alloc, &places, drawings, &order)?;
+    Ok(masters)
+}
