@@ -1,0 +1,6 @@
+//! Whether the drawings of a glyph fit one another, and what a glyph draws through its components.
+#![tactic(auto)]
+
+mod compared;
+
+pub use compared::{Difference, compare, same_bases};
