@@ -2,5 +2,6 @@
 #![tactic(auto)]
 
 mod compared;
+mod order;
 
 pub use compared::{Difference, compare, same_bases};
