@@ -1,2 +1,3 @@
 mod Alike
 mod Steps
+mod Marking

@@ -119,8 +119,9 @@ module _ (graph : List (List ℕ)) (nodes : List Node) (path order : List ℕ) (
   opened_seen : (node : Node) → newness node.mark ≡ 0 → (number : ℕ) → mark_at (set nodes top node) number ≡ New → mark_at nodes number ≡ New
   opened_seen node seen number new =
       elim (cases_eq number top) [
-        inl e ↦ let m = ap newness (mark_here node number e) in let n = ap newness new in absurd (omega (arith, m, n, seen))
-      | inr apart ↦ sym (mark_there node number apart) ∙ new ]
+        | inl e ↦ let m = ap newness (mark_here node number e) in let n = ap newness new in absurd (omega (arith, m, n, seen))
+        | inr apart ↦ sym (mark_there node number apart) ∙ new
+      ]
 
   -- ---- opening a base that is new
 
@@ -280,7 +281,7 @@ step_opens graph nodes path order top base walk closed last known next new new_n
     let is = last_is path top last in
     rw (changed, longer, same_order) (record {
       walk = opens graph nodes path order walk base base_is node refl refl new
-        (λ place e. let p : length path - 1 ≡ place = omega (arith, e) in
+          (λ place e. let p : length path - 1 ≡ place = omega (arith, e) in
           let t : slice_index path place ≡ top = ap (slice_index path) (sym p) ∙ is.1 in
           subst (λ n. Contains (bases_at graph n) base) (sym t) (base_stands graph nodes path order top base walk known next));
       seen = λ number is_new. opened_seen graph nodes path order walk base base_is node refl number is_new;
@@ -306,7 +307,7 @@ pub step_cycle : (graph : List (List ℕ)) (nodes : List Node) (path order : Lis
 step_cycle graph nodes path order top base walk closed last known next was =
     let is = last_is path top last in
     closes_cycle graph nodes path order walk (length path - 1) base (omega (arith, is.0)) (base_known graph nodes path order top base walk closed known next)
-      (subst (λ n. Contains (bases_at graph n) base) (sym is.1) (base_stands graph nodes path order top base walk known next)) was
+    (subst (λ n. Contains (bases_at graph n) base) (sym is.1) (base_stands graph nodes path order top base walk known next)) was
 
 -- ---- a visit, and the whole walk
 
@@ -321,10 +322,11 @@ visit_begins graph nodes path order root walk empty known new new_nodes new_path
     let node : Node = record { mark = Open; left = left_at nodes root } in
     let none = ap length empty in
     let is_open = mark_here graph nodes path order walk root known node root refl in
-    rw (changed, longer, same_order)
-      (opens graph nodes path order walk root known node refl refl new (λ place e. absurd (omega (arith, e, none))),
-       opened_seen graph nodes path order walk root known node refl,
-       λ is_new. cc (is_open, is_new))
+    rw (changed, longer, same_order) (
+      opens graph nodes path order walk root known node refl refl new (λ place e. absurd (omega (arith, e, none))),
+      opened_seen graph nodes path order walk root known node refl,
+      λ is_new. cc (is_open, is_new),
+    )
 
 mark_cases : (mark : Mark) → (mark ≡ New) ⊎ ((mark ≡ Open) ⊎ (mark ≡ Done))
 mark_cases New = inl refl
@@ -334,10 +336,12 @@ mark_cases Done = inr (inr refl)
 pub is_order : (graph : List (List ℕ)) (nodes : List Node) (path order : List ℕ) → IsWalk graph nodes path order → path ≡ [] → AreSeen nodes (length graph) → IsOrder graph order
 is_order graph nodes path order walk empty seen = record {
   each = λ number known. elim (mark_cases (mark_at nodes number)) [
-      inl new ↦ absurd (seen number known new)
+    | inl new ↦ absurd (seen number known new)
     | inr other ↦ elim other [
-        inl was ↦ let stands = walk.opened number known was in let none = ap length empty in let less = stands.1 in absurd (omega (arith, none, less))
-      | inr done ↦ walk.done number known done ] ];
+      | inl was ↦ let stands = walk.opened number known was in let none = ap length empty in let less = stands.1 in absurd (omega (arith, none, less))
+      | inr done ↦ walk.done number known done
+    ]
+  ];
   known = walk.known;
   few = omega (arith, walk.count);
   before = walk.before;
@@ -346,5 +350,6 @@ is_order graph nodes path order walk empty seen = record {
 pub more_seen : (nodes new_nodes : List Node) (root : ℕ) → AreSeen nodes root → StaySeen nodes new_nodes → (¬ (mark_at new_nodes root ≡ New)) → AreSeen new_nodes (root + 1)
 more_seen nodes new_nodes root below stay here number less new =
     elim (cases_eq number root) [
-      inl e ↦ here (sym (ap (mark_at new_nodes) e) ∙ new)
-    | inr apart ↦ below number (omega (arith, less, apart)) (stay number new) ]
+      | inl e ↦ here (sym (ap (mark_at new_nodes) e) ∙ new)
+      | inr apart ↦ below number (omega (arith, less, apart)) (stay number new)
+    ]

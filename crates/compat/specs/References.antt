@@ -29,3 +29,8 @@ pub record IsOrder (graph : List (List ℕ)) (order : List ℕ) : Type 0 where
   pub known : All (λ number. number < length graph) order
   pub few : length order ≤ length graph
   pub before : (place : ℕ) → place < length order → All (Contains (take place order)) (bases_at graph (slice_index order place))
+
+-- the first of those that reach themselves
+pub record IsFirstOnCycle (graph : List (List ℕ)) (number : ℕ) : Type 0 where
+  pub on_cycle : Reaches graph number number
+  pub none_before : (other : ℕ) → other < number → ¬ Reaches graph other other

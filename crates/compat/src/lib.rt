@@ -2,6 +2,9 @@
 #![tactic(auto)]
 
 mod compared;
+mod cycle;
+mod names;
 mod order;
+mod refusal;
 
 pub use compared::{Difference, compare, same_bases};
