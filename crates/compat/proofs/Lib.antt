@@ -1,3 +1,4 @@
 mod Alike
 mod Steps
 mod Marking
+mod Named

@@ -1,4 +1,6 @@
 pub mod Differences
+pub mod Flats
+pub mod Flattened
 pub mod Names
 pub mod References
 pub mod Searches

@@ -3,6 +3,8 @@ use Rattle.std.specs.Prelude.{ℕ, ◌+◌, pos, List, [], ◌∷◌, map, Optio
 use Rattle.std.specs.Option.{option_or, option_map}
 use Rattle.std.specs.List.{position_from, filter_map}
 use Rattle.std.specs.Str.{bytes_eq}
+use Rattle.std.specs.HashMap.{HashMap, get_by}
+use Rattle.std.specs.Borrow.{Bor}
 use Rattle.outside.specs.declared.fault.Kind.TheVariants.{DanglingComponent}
 use Rattle.glif.specs.declared.shape.Component.{Component}
 use Rattle.glif.specs.declared.shape.Drawing.{Drawing}
@@ -11,6 +13,10 @@ use Rattle.compat.specs.declared.refusal.Refusal.{Refusal}
 -- the number of the first drawing of this name
 abbrev pub number_of : List Drawing → List ℕ → Option ℕ
 number_of drawings name = position_from (λ (drawing : Drawing). bytes_eq drawing.name name) 0 drawings
+
+-- the number that a map by name gives a name
+abbrev pub number_in : {S : Type 0} → HashMap (Bor (List ℕ)) ℕ S → List ℕ → Option ℕ
+number_in numbers name = get_by (λ (key : Bor (List ℕ)). bytes_eq name key.now) numbers
 
 -- the numbers of the bases of a drawing's components, as `number` gives them
 abbrev pub base_numbers : (List ℕ → Option ℕ) → Drawing → List ℕ

@@ -3,6 +3,7 @@
 
 mod compared;
 mod cycle;
+mod flat;
 mod names;
 mod order;
 mod refusal;

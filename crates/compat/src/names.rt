@@ -1,19 +1,17 @@
 //! Which drawing each component names.
 
 ghost use Rattle.std.specs.Prelude.{◌≡◌, ℕ, List, None, IfOk, MatchResult, Some};
-ghost use Rattle.std.specs.HashMap.{get_by};
-ghost use Rattle.std.specs.Str.{bytes_eq};
-ghost use Rattle.compat.specs.Names.{number_of, base_numbers, references, dangling_in, first_dangling};
+ghost use Rattle.compat.specs.Names.{number_in, number_of, base_numbers, references, dangling_in, first_dangling};
 
 use crate::refusal::Refusal;
 use glif::Drawing;
-use outside::{Kind, NoMemory, Seq};
+use outside::{Kind, Name, NoMemory, Seq};
 use std::alloc::Global;
 use std::collections::HashMap;
 
 /// The number of each drawing, by its name.
 fn numbers_by_name(alloc: Global, drawings: &[Drawing]) -> Result<HashMap<&str, usize>, NoMemory>
-    ensures { IfOk result (λ numbers. (name : List ℕ) → get_by (λ key. bytes_eq name key.now) numbers ≡ number_of drawings.now name) }
+    ensures { IfOk result (λ numbers. (name : List ℕ) → number_in numbers name ≡ number_of drawings.now name) }
 {
     let mut numbers = HashMap::new(alloc);
     for number in (0..drawings.len()).rev() {
@@ -22,18 +20,25 @@ fn numbers_by_name(alloc: Global, drawings: &[Drawing]) -> Result<HashMap<&str, 
     Ok(numbers)
 }
 
+/// The number of the drawing of this name.
+fn number_of(numbers: &HashMap<&str, usize>, name: &Name) -> Option<usize>
+    ensures { result ≡ number_in numbers.now name.now }
+{
+    numbers.get(name.as_str()).copied()
+}
+
 /// The numbers of the bases of a drawing's components, or the first component whose base has none.
 fn base_numbers(
     alloc: Global,
     numbers: &HashMap<&str, usize>,
     drawing: &Drawing,
 ) -> Result<Result<Seq<usize>, usize>, NoMemory>
-    ensures { let number = λ name. get_by (λ key. bytes_eq name key.now) numbers.now in IfOk result (λ found. MatchResult found (λ bases. (bases ≡ base_numbers number drawing.now) × (dangling_in number drawing.now ≡ None)) (λ component. dangling_in number drawing.now ≡ Some component)) }
+    ensures { IfOk result (λ found. MatchResult found (λ bases. (bases ≡ base_numbers (number_in numbers.now) drawing.now) × (dangling_in (number_in numbers.now) drawing.now ≡ None)) (λ component. dangling_in (number_in numbers.now) drawing.now ≡ Some component)) }
 {
     let mut bases = Vec::new(alloc);
     for (place, component) in drawing.components.as_slice().iter().enumerate() {
-        match numbers.get(component.base.as_str()) {
-            Some(number) => bases.push(*number)?,
+        match number_of(numbers, &component.base) {
+            Some(number) => bases.push(number)?,
             None => return Ok(Err(place)),
         }
     }
