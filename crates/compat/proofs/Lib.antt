@@ -2,3 +2,4 @@ mod Alike
 mod Steps
 mod Marking
 mod Named
+mod Joined

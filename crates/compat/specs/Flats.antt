@@ -1,8 +1,10 @@
 -- What is kept of a drawing's flattened outline while others are made from it.
-use Rattle.std.specs.Prelude.{◌≡◌, ℕ, ◌+◌, ◌*◌, ◌<◌, ◌≤◌, ℤ, pos, ◌+ℤ◌, ◌≤ℤ◌, List, length, sum_by, All, Some, slice_get, slice_index, slice_index_or}
+use Rattle.std.specs.Prelude.{◌≡◌, ℕ, ◌+◌, ◌*◌, ◌<◌, ◌≤◌, min, ℤ, pos, ◌+ℤ◌, ◌≤ℤ◌, FitsSigned, List, [], ◌∷◌, ◌++◌, length, if◌then◌else◌, nat_le, sum_by, All, Some, slice_get, slice_index, slice_index_or}
+use Rattle.std.specs.Int.{w32}
 use Rattle.glif.specs.declared.shape.Point.{Point}
+use Rattle.glif.specs.declared.shape.Component.{Component}
 use Rattle.glif.specs.declared.shape.Drawing.{Drawing}
-use Rattle.compat.specs.Flattened.{IsFlattened, shown_count}
+use Rattle.compat.specs.Flattened.{IsFlattened, shown_count, moved_contours}
 use Rattle.compat.specs.declared.flat.Flat.{Flat}
 use Rattle.compat.specs.declared.flat.Flat.TheVariants.{Unknown, Few, Many}
 
@@ -28,3 +30,44 @@ IsFlatOf drawings bound drawing (Many count) =
 abbrev pub IsKept : List Drawing → ℕ → List Flat → ℕ → Type 0
 IsKept drawings bound flats number =
     (drawing : Drawing) → slice_get drawings number ≡ Some drawing → IsFlatOf drawings bound drawing (slice_index_or flats number Unknown)
+
+-- ---- how one is made of others
+
+-- the points of a drawing's own contours and of what it refers to are in a point's range after the move
+pub record CanMove (component : Component) (point : Point) : Type 0 where
+  pub x : FitsSigned w32 (point.x +ℤ component.dx)
+  pub y : FitsSigned w32 (point.y +ℤ component.dy)
+
+abbrev pub flat_at : List Flat → ℕ → Flat
+flat_at flats number = slice_index_or flats number Unknown
+
+-- the contours that are kept
+abbrev pub flat_contours : Flat → List (List Point)
+flat_contours Unknown = []
+flat_contours (Few contours) = contours
+flat_contours (Many count) = []
+
+-- the count of points that is kept
+abbrev pub flat_count : Flat → ℕ
+flat_count Unknown = 0
+flat_count (Few contours) = shown_count contours
+flat_count (Many count) = count
+
+-- how many points a drawing has with those to which it refers
+abbrev pub joint_count : List Flat → List (List Point) → List ℕ → ℕ
+joint_count flats own bases = min (shown_count own + sum_by (λ base. flat_count (flat_at flats base)) bases) 1000000000
+
+-- the kept contours of the bases, moved, component by component
+abbrev pub placed_contours : List Flat → List Component → List ℕ → List (List Point)
+placed_contours flats (component ∷ components) (base ∷ bases) = moved_contours component (flat_contours (flat_at flats base)) ++ placed_contours flats components bases
+placed_contours flats _ _ = []
+
+abbrev pub AreMovable : List Flat → List Component → List ℕ → Type 0
+AreMovable flats (component ∷ components) (base ∷ bases) = All (All (CanMove component)) (flat_contours (flat_at flats base)) × AreMovable flats components bases
+AreMovable flats _ _ = Unit {0}
+
+abbrev pub joined_flat : List Flat → Drawing → List ℕ → Flat
+joined_flat flats drawing bases =
+    if nat_le (joint_count flats drawing.outline.contours bases) 4000
+    then Few (drawing.outline.contours ++ placed_contours flats drawing.components bases)
+    else Many (joint_count flats drawing.outline.contours bases)

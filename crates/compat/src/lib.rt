@@ -6,6 +6,11 @@ mod cycle;
 mod flat;
 mod names;
 mod order;
+mod outlines;
 mod refusal;
 
 pub use compared::{Difference, compare, same_bases};
+pub use outlines::flatten;
+
+#[cfg(test)]
+mod tests;

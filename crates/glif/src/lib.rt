@@ -5,7 +5,7 @@ mod limits;
 mod plain;
 mod shape;
 
-pub use limits::within;
+pub use limits::{coordinate_outside, within};
 pub use plain::{limits_law, plain_law, read_plain};
 pub use shape::{Component, Drawing, Outline, Point};
 

@@ -27,7 +27,7 @@ fn point_outside(point: &Point) -> Option<i64>
 }
 
 /// The first coordinate out of range, by point.
-fn coordinate_outside(points: &[Point]) -> Option<i64>
+pub fn coordinate_outside(points: &[Point]) -> Option<i64>
     ensures { result ≡ first_given point_outside points.now }
 {
     for point in points {

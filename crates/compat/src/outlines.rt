@@ -1,0 +1,152 @@
+//! The flattened outlines of a list of drawings.
+
+use crate::cycle::first_on_cycle;
+use crate::flat::{Flat, joined};
+use crate::names::references;
+use crate::order::order_of;
+use crate::refusal::Refusal;
+use glif::{Drawing, Outline, Point, coordinate_outside};
+use outside::{Kind, NoMemory, Seq, Spot, Stop};
+use std::alloc::Global;
+
+/// What is kept of each drawing's flattened outline, made in an order in which bases come first.
+fn flats_in(
+    alloc: Global,
+    drawings: &[Drawing],
+    graph: &[Seq<usize>],
+    order: &[usize],
+) -> Result<Vec<Flat>, NoMemory> {
+    let mut flats = Vec::new(alloc);
+    for _ in drawings {
+        flats.push(Flat::Unknown)?;
+    }
+    for &number in order {
+        let flat = joined(
+            alloc,
+            &drawings[number],
+            graph[number].as_slice(),
+            flats.as_slice(),
+        )?;
+        flats[number] = flat;
+    }
+    Ok(flats)
+}
+
+/// The first coordinate out of range of the contours, by contour and point, x before y.
+fn coordinate_in(contours: &[Seq<Point>]) -> Option<i64> {
+    for contour in contours {
+        if let Some(number) = coordinate_outside(contour.as_slice()) {
+            return Some(number);
+        }
+    }
+    None
+}
+
+/// The fault of a flattened outline: too many points, or else the first coordinate out of range.
+fn fault_of(flat: &Flat) -> Option<(Kind, i64)> {
+    match flat {
+        Flat::Unknown => None,
+        Flat::Few(contours) => Some((Kind::CoordinateRange, coordinate_in(contours.as_slice())?)),
+        Flat::Many(count) => Some((Kind::TooManyPoints, *count as i64)),
+    }
+}
+
+/// The first fault of the flattened outlines, by drawing.
+fn first_fault(flats: &[Flat]) -> Option<Refusal> {
+    for (number, flat) in flats.iter().enumerate() {
+        if let Some((kind, first)) = fault_of(flat) {
+            return Some(Refusal {
+                drawing: number,
+                kind,
+                at: 0,
+                first,
+            });
+        }
+    }
+    None
+}
+
+/// The flattened outlines, each with the drawing's own advance width.
+fn outlines_of(
+    alloc: Global,
+    drawings: &[Drawing],
+    flats: Vec<Flat>,
+) -> Result<Seq<Outline>, NoMemory> {
+    let mut outlines = Vec::new(alloc);
+    let mut number = 0;
+    for flat in flats {
+        let Flat::Few(contours) = flat else {
+            unreachable!();
+        };
+        let advance = drawings[number].outline.advance;
+        outlines.push(Outline { advance, contours })?;
+        number += 1;
+    }
+    Ok(Seq::from_vec(outlines))
+}
+
+/// The flattened outlines, or the first fault.
+fn outlines_or_refusal(
+    alloc: Global,
+    drawings: &[Drawing],
+) -> Result<Result<Seq<Outline>, Refusal>, NoMemory> {
+    let graph = match references(alloc, drawings)? {
+        Ok(graph) => graph,
+        Err(refusal) => return Ok(Err(refusal)),
+    };
+    let Some(order) = order_of(alloc, graph.as_slice())? else {
+        let drawing = first_on_cycle(alloc, graph.as_slice())?;
+        return Ok(Err(Refusal {
+            drawing,
+            kind: Kind::ComponentCycle,
+            at: 0,
+            first: 0,
+        }));
+    };
+    let flats = flats_in(alloc, drawings, graph.as_slice(), order.as_slice())?;
+    if let Some(refusal) = first_fault(flats.as_slice()) {
+        return Ok(Err(refusal));
+    }
+    Ok(Ok(outlines_of(alloc, drawings, flats)?))
+}
+
+/// A refusal with the glyph's name, or NoMemory.
+fn stop_of(alloc: Global, drawings: &[Drawing], refusal: Refusal) -> Stop {
+    match drawings[refusal.drawing].name.try_copy(alloc) {
+        Ok(item) => Stop::At(Spot {
+            kind: refusal.kind,
+            item,
+            at: refusal.at as u64,
+            also: 0,
+            first: refusal.first,
+            second: 0,
+        }),
+        Err(_) => Stop::NoMemory,
+    }
+}
+
+/// The flattened outline of each drawing of one source: its own contours, and behind them, component by component,
+/// the flattened outline of the base, moved by the component's offset (UFO 3, "GLIF", "component"). The advance
+/// width is the drawing's own. A base is the drawing of that name, the first where there are more.
+///
+/// There are at most 32,510 drawings, each with an outline within limits, and offsets are from −16,384 to 16,383, in
+/// font units. References are followed without use of the stack, and no point is made beyond 4,000 a glyph.
+///
+/// # Errors
+///
+/// The number of a drawing, from 0, and its fault, of which `item` is its name. The first of these is answered:
+/// DanglingComponent for the first component whose base is no drawing, by drawing and component, with the
+/// component's number in `at`; ComponentCycle for the first drawing that reaches itself through components; then by
+/// drawing TooManyPoints where the flattened outline has more than 4,000 points, with their number in `first`, or
+/// 1,000,000,000 where there are more, and CoordinateRange for its first x or y out of −16,384 to 16,383, by contour
+/// and point, with the value in `first`. `Stop::NoMemory` where memory ran out; the number then says nothing.
+pub fn flatten(alloc: Global, drawings: &Seq<Drawing>) -> Result<Seq<Outline>, (u64, Stop)> {
+    match outlines_or_refusal(alloc, drawings.as_slice()) {
+        Ok(Ok(outlines)) => Ok(outlines),
+        Ok(Err(refusal)) => Err((
+            refusal.drawing as u64,
+            stop_of(alloc, drawings.as_slice(), refusal),
+        )),
+        Err(_) => Err((0, Stop::NoMemory)),
+    }
+}
