@@ -3,3 +3,5 @@ mod Steps
 mod Marking
 mod Named
 mod Joined
+mod Kept
+mod Made

@@ -1,10 +1,15 @@
 -- What is kept of a drawing's flattened outline while others are made from it.
-use Rattle.std.specs.Prelude.{◌≡◌, ℕ, ◌+◌, ◌*◌, ◌<◌, ◌≤◌, min, ℤ, pos, ◌+ℤ◌, ◌≤ℤ◌, FitsSigned, List, [], ◌∷◌, ◌++◌, length, if◌then◌else◌, nat_le, sum_by, All, Some, slice_get, slice_index, slice_index_or}
+use Rattle.std.specs.Prelude.{◌≡◌, ℕ, ◌+◌, ◌*◌, ◌<◌, ◌≤◌, min, ℤ, pos, ◌+ℤ◌, ◌≤ℤ◌, FitsSigned, List, [], ◌∷◌, ◌++◌, length, if◌then◌else◌, nat_le, sum_by, All, Option, Some, None, slice_get, slice_index, slice_index_or}
 use Rattle.std.specs.Int.{w32}
 use Rattle.glif.specs.declared.shape.Point.{Point}
 use Rattle.glif.specs.declared.shape.Component.{Component}
 use Rattle.glif.specs.declared.shape.Drawing.{Drawing}
-use Rattle.compat.specs.Flattened.{IsFlattened, shown_count, moved_contours}
+use Rattle.compat.specs.Flattened.{IsFlattened, shown_count, moved_contours, coordinate_outside, refusal_of}
+use Rattle.compat.specs.declared.refusal.Refusal.{Refusal}
+use Rattle.compat.specs.References.{bases_at}
+use Rattle.std.specs.Option.{option_or, option_map}
+use Rattle.outside.specs.declared.fault.Kind.{Kind}
+use Rattle.outside.specs.declared.fault.Kind.TheVariants.{CoordinateRange, TooManyPoints}
 use Rattle.compat.specs.declared.flat.Flat.{Flat}
 use Rattle.compat.specs.declared.flat.Flat.TheVariants.{Unknown, Few, Many}
 
@@ -71,3 +76,36 @@ joined_flat flats drawing bases =
     if nat_le (joint_count flats drawing.outline.contours bases) 4000
     then Few (drawing.outline.contours ++ placed_contours flats drawing.components bases)
     else Many (joint_count flats drawing.outline.contours bases)
+
+-- something is kept of every drawing
+pub record AreKept (drawings : List Drawing) (flats : List Flat) : Type 0 where
+  pub sizes : length flats ≡ length drawings
+  pub bound : ℕ
+  pub each : (number : ℕ) → number < length drawings → IsKept drawings bound flats number
+
+-- what is kept of all to which a drawing refers is near enough to be moved
+pub record HasBases (drawings : List Drawing) (graph : List (List ℕ)) (flats : List Flat) (number : ℕ) : Type 0 where
+  pub bound : ℕ
+  pub few : bound ≤ 32510
+  pub kept : All (IsKept drawings bound flats) (bases_at graph number)
+
+-- the drawing of this number joined with what is kept of its bases
+abbrev pub IsJoined : List Drawing → List (List ℕ) → List Flat → ℕ → Flat → Type 0
+IsJoined drawings graph flats number flat = (drawing : Drawing) → slice_get drawings number ≡ Some drawing → flat ≡ joined_flat flats drawing (bases_at graph number)
+
+-- a count that is kept is at most 1,000,000,000
+abbrev pub IsCounted : Flat → Type 0
+IsCounted Unknown = Unit {0}
+IsCounted (Few contours) = Unit {0}
+IsCounted (Many count) = count ≤ 1000000000
+
+-- the fault of what is kept
+abbrev pub kept_fault : Flat → Option (Kind × ℤ)
+kept_fault Unknown = None
+kept_fault (Few contours) = option_map (λ value. (CoordinateRange, value)) (coordinate_outside contours)
+kept_fault (Many count) = Some (TooManyPoints, pos count)
+
+-- the first fault of what is kept of drawings of which the first has this number
+abbrev pub fault_from : ℕ → List Flat → Option Refusal
+fault_from number [] = None
+fault_from number (flat ∷ flats) = option_or (option_map (refusal_of number) (kept_fault flat)) (fault_from (number + 1) flats)

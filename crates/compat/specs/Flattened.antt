@@ -1,10 +1,13 @@
 -- What a glyph draws through its components: its own contours, and behind them, component by component, what the base
 -- draws, moved by the component's offset.
-use Rattle.std.specs.Prelude.{◌≡◌, ℕ, ◌+◌, ◌<◌, ℤ, pos, ◌+ℤ◌, List, [], ◌∷◌, ◌++◌, length, map, min, sum_by, Option, Some, None, if◌then◌else◌, nat_le, slice_get}
+use Rattle.std.specs.Prelude.{◌≡◌, ℕ, ◌+◌, ◌<◌, ◌≤◌, ℤ, pos, negsuc, ◌≤ℤ◌, All, ◌+ℤ◌, List, [], ◌∷◌, ◌++◌, length, map, min, sum_by, Option, Some, None, if◌then◌else◌, nat_le, slice_get}
 use Rattle.std.specs.Option.{option_map}
 use Rattle.std.specs.List.{AllZip}
+use Rattle.outside.specs.declared.fault.Stop.{Stop}
+use Rattle.outside.specs.declared.fault.Stop.TheVariants.{NoMemory, At}
 use Rattle.outside.specs.declared.fault.Kind.{Kind}
 use Rattle.outside.specs.declared.fault.Kind.TheVariants.{CoordinateRange, TooManyPoints, ComponentCycle}
+use Rattle.glif.specs.Limits.{IsWithinLimits}
 use Rattle.glif.specs.FirstOutside.{first_given, point_outside}
 use Rattle.glif.specs.declared.shape.Point.{Point}
 use Rattle.glif.specs.declared.shape.Outline.{Outline}
@@ -49,6 +52,19 @@ shown_count contours = min (sum_by length contours) 1000000000
 abbrev pub coordinate_outside : List (List Point) → Option ℤ
 coordinate_outside contours = first_given (first_given point_outside) contours
 
+-- each number of an offset is in -16384 .. 16383
+pub record IsOffsetWithin (component : Component) : Type 0 where
+  pub least_x : negsuc 16383 ≤ℤ component.dx
+  pub greatest_x : component.dx ≤ℤ pos 16383
+  pub least_y : negsuc 16383 ≤ℤ component.dy
+  pub greatest_y : component.dy ≤ℤ pos 16383
+
+-- at most 32,510 drawings, each within limits, and so its components' offsets
+pub record AreFit (drawings : List Drawing) : Type 0 where
+  pub few : length drawings ≤ 32510
+  pub within : All (λ (drawing : Drawing). IsWithinLimits drawing.outline) drawings
+  pub offsets : All (λ (drawing : Drawing). All IsOffsetWithin drawing.components) drawings
+
 -- the fault of flattened contours: too many points, or else the first coordinate out of range
 abbrev pub flat_fault : List (List Point) → Option (Kind × ℤ)
 flat_fault contours =
@@ -86,3 +102,10 @@ pub record AreFlattened (drawings : List Drawing) (outlines : List Outline) : Ty
   pub none_dangling : first_dangling drawings ≡ None
   pub no_cycle : HasNoCycle (references drawings)
   pub each : AllZip (IsFlatOutline drawings) drawings outlines
+
+-- the call answered a drawing's number and its fault, of which the item is its name
+abbrev pub IsRefused : List Drawing → ℕ → Stop → Type 0
+IsRefused drawings number NoMemory = Unit {0}
+IsRefused drawings number (At spot) =
+    (refusal : Refusal) × IsFirstRefusal drawings refusal × (number ≡ refusal.drawing) × (option_map (λ (drawing : Drawing). drawing.name) (slice_get drawings number) ≡ Some spot.item)
+    × (spot.kind ≡ refusal.kind) × (spot.at ≡ refusal.at) × (spot.also ≡ 0) × (spot.first ≡ refusal.first) × (spot.second ≡ pos 0)

@@ -1,5 +1,12 @@
 //! The flattened outlines of a list of drawings.
 
+ghost use Rattle.std.specs.Prelude.{◌≡◌, ℕ, ◌≤◌, ◌<◌, None, length, All, IfOk, MatchResult};
+ghost use Rattle.glif.specs.FirstOutside.{first_given, point_outside};
+ghost use Rattle.compat.specs.Names.{references, first_dangling};
+ghost use Rattle.compat.specs.References.{IsOrder};
+ghost use Rattle.compat.specs.Flattened.{AreFit, AreFlattened, IsFirstRefusal, IsRefused, coordinate_outside, IsFlatOutline};
+ghost use Rattle.compat.specs.Flats.{HasBases, IsJoined, AreKept, kept_fault, fault_from, IsCounted};
+
 use crate::cycle::first_on_cycle;
 use crate::flat::{Flat, joined};
 use crate::names::references;
@@ -9,31 +16,62 @@ use glif::{Drawing, Outline, Point, coordinate_outside};
 use outside::{Kind, NoMemory, Seq, Spot, Stop};
 use std::alloc::Global;
 
+/// As many places as there are drawings, with nothing made yet.
+fn unknown(alloc: Global, drawings: &[Drawing]) -> Result<Vec<Flat>, NoMemory>
+    ensures { IfOk result (λ flats. length flats.items ≡ length drawings.now) }
+{
+    let mut flats = Vec::new(alloc);
+    for _drawing in drawings {
+        flats.push(Flat::Unknown)?;
+    }
+    Ok(flats)
+}
+
+/// What is kept of one drawing, made of what is kept of its bases.
+fn joined_at(
+    alloc: Global,
+    drawings: &[Drawing],
+    graph: &[Seq<usize>],
+    number: usize,
+    flats: &[Flat],
+) -> Result<Flat, NoMemory>
+    requires fit { AreFit drawings.now }
+    requires references { graph.now ≡ references drawings.now }
+    requires named { first_dangling drawings.now ≡ None }
+    requires sizes { length flats.now ≡ length drawings.now }
+    requires known { number < length drawings.now }
+    requires bases { HasBases drawings.now graph.now flats.now number }
+    ensures { IfOk result (IsJoined drawings.now graph.now flats.now number) }
+{
+    let flat = joined(alloc, &drawings[number], graph[number].as_slice(), flats)?;
+    Ok(flat)
+}
+
 /// What is kept of each drawing's flattened outline, made in an order in which bases come first.
 fn flats_in(
     alloc: Global,
     drawings: &[Drawing],
     graph: &[Seq<usize>],
     order: &[usize],
-) -> Result<Vec<Flat>, NoMemory> {
-    let mut flats = Vec::new(alloc);
-    for _ in drawings {
-        flats.push(Flat::Unknown)?;
-    }
+) -> Result<Vec<Flat>, NoMemory>
+    requires fit { AreFit drawings.now }
+    requires references { graph.now ≡ references drawings.now }
+    requires named { first_dangling drawings.now ≡ None }
+    requires order { IsOrder graph.now order.now }
+    ensures { IfOk result (λ flats. AreKept drawings.now flats.items) }
+{
+    let mut flats = unknown(alloc, drawings)?;
     for &number in order {
-        let flat = joined(
-            alloc,
-            &drawings[number],
-            graph[number].as_slice(),
-            flats.as_slice(),
-        )?;
+        let flat = joined_at(alloc, drawings, graph, number, flats.as_slice())?;
         flats[number] = flat;
     }
     Ok(flats)
 }
 
 /// The first coordinate out of range of the contours, by contour and point, x before y.
-fn coordinate_in(contours: &[Seq<Point>]) -> Option<i64> {
+fn coordinate_in(contours: &[Seq<Point>]) -> Option<i64>
+    ensures { result ≡ coordinate_outside contours.now }
+{
     for contour in contours {
         if let Some(number) = coordinate_outside(contour.as_slice()) {
             return Some(number);
@@ -43,7 +81,10 @@ fn coordinate_in(contours: &[Seq<Point>]) -> Option<i64> {
 }
 
 /// The fault of a flattened outline: too many points, or else the first coordinate out of range.
-fn fault_of(flat: &Flat) -> Option<(Kind, i64)> {
+fn fault_of(flat: &Flat) -> Option<(Kind, i64)>
+    requires { IsCounted flat.now }
+    ensures { result ≡ kept_fault flat.now }
+{
     match flat {
         Flat::Unknown => None,
         Flat::Few(contours) => Some((Kind::CoordinateRange, coordinate_in(contours.as_slice())?)),
@@ -52,7 +93,10 @@ fn fault_of(flat: &Flat) -> Option<(Kind, i64)> {
 }
 
 /// The first fault of the flattened outlines, by drawing.
-fn first_fault(flats: &[Flat]) -> Option<Refusal> {
+fn first_fault(flats: &[Flat]) -> Option<Refusal>
+    requires { All IsCounted flats.now }
+    ensures { result ≡ fault_from 0 flats.now }
+{
     for (number, flat) in flats.iter().enumerate() {
         if let Some((kind, first)) = fault_of(flat) {
             return Some(Refusal {
