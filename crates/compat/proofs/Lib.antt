@@ -5,3 +5,4 @@ mod Named
 mod Joined
 mod Kept
 mod Made
+mod Faults

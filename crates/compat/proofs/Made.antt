@@ -64,7 +64,7 @@ movable_at drawings flats number drawing bases fit none known is same has =
 
 -- ---- the order
 
-stands_before : (order : List ℕ) (place base : ℕ) → Contains (take place order) base → (before : ℕ) × (before < place) × (before < length order) × (slice_index order before ≡ base)
+pub stands_before : (order : List ℕ) (place base : ℕ) → Contains (take place order) base → (before : ℕ) × (before < place) × (before < length order) × (slice_index order before ≡ base)
 stands_before order place base stands =
     let less = stands.1 in
     let short : stands.0 < place = grind (arith, common_steps, less) in

@@ -2,6 +2,7 @@
 use Rattle.std.specs.Prelude.{◌≡◌, ℕ, ◌+◌, ◌*◌, ◌<◌, ◌≤◌, min, ℤ, pos, ◌+ℤ◌, ◌≤ℤ◌, FitsSigned, List, [], ◌∷◌, ◌++◌, length, if◌then◌else◌, nat_le, sum_by, All, Option, Some, None, slice_get, slice_index, slice_index_or}
 use Rattle.std.specs.Int.{w32}
 use Rattle.glif.specs.declared.shape.Point.{Point}
+use Rattle.glif.specs.declared.shape.Outline.{Outline}
 use Rattle.glif.specs.declared.shape.Component.{Component}
 use Rattle.glif.specs.declared.shape.Drawing.{Drawing}
 use Rattle.compat.specs.Flattened.{IsFlattened, shown_count, moved_contours, coordinate_outside, refusal_of}
@@ -109,3 +110,14 @@ kept_fault (Many count) = Some (TooManyPoints, pos count)
 abbrev pub fault_from : ℕ → List Flat → Option Refusal
 fault_from number [] = None
 fault_from number (flat ∷ flats) = option_or (option_map (refusal_of number) (kept_fault flat)) (fault_from (number + 1) flats)
+
+-- contours are kept
+abbrev pub IsFew : Flat → Type 0
+IsFew Unknown = ⊥
+IsFew (Few contours) = Unit {0}
+IsFew (Many count) = ⊥
+
+-- the outlines of drawings with the contours that are kept of them
+abbrev pub joined_outlines : List Drawing → List Flat → List Outline
+joined_outlines (drawing ∷ drawings) (flat ∷ flats) = record { advance = drawing.outline.advance; contours = flat_contours flat } ∷ joined_outlines drawings flats
+joined_outlines _ _ = []

@@ -2,7 +2,7 @@
 
 ghost use Rattle.std.specs.Prelude.{◌≡◌, ◌++◌, length, map, All, IfOk, OnOk, ◌<◌};
 ghost use Rattle.compat.specs.Flattened.{moved, moved_contours, shown_count};
-ghost use Rattle.compat.specs.Flats.{CanMove, flat_at, flat_contours, flat_count, joint_count, placed_contours, AreMovable, joined_flat};
+ghost use Rattle.compat.specs.Flats.{CanMove, flat_at, flat_contours, flat_count, joint_count, placed_contours, AreMovable, joined_flat, IsFew};
 
 use glif::{Component, Drawing, Point};
 use outside::{NoMemory, Seq};
@@ -33,6 +33,17 @@ impl Flat {
         match self {
             Flat::Few(contours) => contours.as_slice(),
             Flat::Unknown | Flat::Many(_) => &[],
+        }
+    }
+
+    /// The contours that are kept, where they are.
+    pub(crate) fn into_contours(self) -> Seq<Seq<Point>>
+        requires { IsFew self }
+        ensures { result ≡ flat_contours self }
+    {
+        match self {
+            Flat::Few(contours) => contours,
+            Flat::Unknown | Flat::Many(_) => unreachable!(),
         }
     }
 

@@ -5,7 +5,7 @@ ghost use Rattle.glif.specs.FirstOutside.{first_given, point_outside};
 ghost use Rattle.compat.specs.Names.{references, first_dangling};
 ghost use Rattle.compat.specs.References.{IsOrder};
 ghost use Rattle.compat.specs.Flattened.{AreFit, AreFlattened, IsFirstRefusal, IsRefused, coordinate_outside, IsFlatOutline};
-ghost use Rattle.compat.specs.Flats.{HasBases, IsJoined, AreKept, kept_fault, fault_from, IsCounted};
+ghost use Rattle.compat.specs.Flats.{HasBases, IsJoined, AreKept, kept_fault, fault_from, IsCounted, IsFew, joined_outlines};
 
 use crate::cycle::first_on_cycle;
 use crate::flat::{Flat, joined};
@@ -110,21 +110,33 @@ fn first_fault(flats: &[Flat]) -> Option<Refusal>
     None
 }
 
+/// An outline with the drawing's own advance width.
+fn outline_of(drawing: &Drawing, contours: Seq<Seq<Point>>) -> Outline
+    ensures { result ≡ record { advance = drawing.now.outline.advance; contours = contours } }
+{
+    Outline {
+        advance: drawing.outline.advance,
+        contours,
+    }
+}
+
 /// The flattened outlines, each with the drawing's own advance width.
 fn outlines_of(
     alloc: Global,
     drawings: &[Drawing],
     flats: Vec<Flat>,
-) -> Result<Seq<Outline>, NoMemory> {
+) -> Result<Seq<Outline>, NoMemory>
+    requires sizes { length flats.items ≡ length drawings.now }
+    requires few { All IsFew flats.items }
+    ensures { IfOk result (λ outlines. outlines ≡ joined_outlines drawings.now flats.items) }
+{
     let mut outlines = Vec::new(alloc);
-    let mut number = 0;
-    for flat in flats {
-        let Flat::Few(contours) = flat else {
+    let mut rest = flats.into_iter();
+    for drawing in drawings {
+        let Some(flat) = rest.next() else {
             unreachable!();
         };
-        let advance = drawings[number].outline.advance;
-        outlines.push(Outline { advance, contours })?;
-        number += 1;
+        outlines.push(outline_of(drawing, flat.into_contours()))?;
     }
     Ok(Seq::from_vec(outlines))
 }
