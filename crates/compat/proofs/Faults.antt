@@ -13,14 +13,14 @@ use Rattle.glif.specs.declared.shape.Point.{Point}
 use Rattle.glif.specs.declared.shape.Outline.{Outline}
 use Rattle.glif.specs.declared.shape.Drawing.{Drawing}
 use Rattle.compat.specs.References.{bases_at, Reaches, direct, onward, HasNoCycle, IsOrder}
-use Rattle.compat.specs.Names.{references, first_dangling}
-use Rattle.compat.specs.Flattened.{IsFlattened, shown_count, coordinate_outside, flat_fault, HasFlatFault, refusal_of, IsFirstRefusal, flat as flat_refusal, IsFlatOutline, AreFlattened}
+use Rattle.compat.specs.Names.{number_of, references, dangling_in, dangling_refusal, dangling_from, first_dangling}
+use Rattle.compat.specs.Flattened.{IsFlattened, shown_count, coordinate_outside, flat_fault, HasFlatFault, refusal_of, IsFirstRefusal, dangling, cycle, flat as flat_refusal, IsFlatOutline, AreFlattened}
 use Rattle.compat.specs.Flats.{IsFlatOf, IsKept, AreKept, flat_at, flat_contours, IsCounted, IsFew, kept_fault, fault_from, joined_outlines}
 use Rattle.compat.specs.declared.refusal.Refusal.{Refusal}
 use Rattle.compat.specs.declared.flat.Flat.{Flat}
 use Rattle.compat.specs.declared.flat.Flat.TheVariants.{Unknown, Few, Many}
 use Rattle.compat.proofs.Kept.{blank}
-use Rattle.compat.proofs.Made.{stands_before}
+use Rattle.compat.proofs.Made.{stands_before, same_size}
 use Rattle.compat.proofs.Marking.{reaches_known}
 
 -- ---- no cycle
@@ -188,3 +188,19 @@ outlines_more drawings i drawing kept flats rest outlines new_outlines whole out
 
 pub first_few : (kept : Flat) (flats rest : List Flat) → flats ≡ kept ∷ rest → All IsFew flats → IsFew kept × All IsFew rest
 first_few kept flats rest next few = let all = subst (All IsFew) next few in (All-head IsFew kept rest all, All-tail IsFew kept rest all)
+
+-- ---- which drawing has the fault
+
+dangling_known_step : (count rest : ℕ) (refusal : Refusal) (found : Option ℕ) (more : Option Refusal) → (more ≡ Some refusal → refusal.drawing < count + 1 + rest) → option_or (option_map (dangling_refusal count) found) more ≡ Some refusal → refusal.drawing < count + suc rest
+dangling_known_step count rest refusal (Some place) more less some = let is = ap (λ (r : Refusal). r.drawing) (same_Some _ _ some) in omega (arith, is)
+dangling_known_step count rest refusal None more less some = let l = less some in omega (arith, l)
+
+dangling_known : (number : List ℕ → Option ℕ) (count : ℕ) (drawings : List Drawing) (refusal : Refusal) → dangling_from number count drawings ≡ Some refusal → refusal.drawing < count + length drawings
+dangling_known number count [] refusal some = cc
+dangling_known number count (drawing ∷ drawings) refusal some =
+    dangling_known_step count (length drawings) refusal (dangling_in number drawing) (dangling_from number (count + 1) drawings) (dangling_known number (count + 1) drawings refusal) some
+
+pub refusal_known : (drawings : List Drawing) (refusal : Refusal) → IsFirstRefusal drawings refusal → refusal.drawing < length drawings
+refusal_known drawings refusal (dangling found) = let less = dangling_known (number_of drawings) 0 drawings refusal found in omega (arith, less)
+refusal_known drawings refusal (cycle none first) = let less = reaches_known (references drawings) first.on_cycle in let sizes = same_size drawings (references drawings) refl in omega (arith, less, sizes)
+refusal_known drawings refusal (flat_refusal {number} {drawing} none acyclic stands fault before) = slice_get_within drawings number drawing stands

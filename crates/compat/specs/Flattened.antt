@@ -3,6 +3,7 @@
 use Rattle.std.specs.Prelude.{◌≡◌, ℕ, ◌+◌, ◌<◌, ◌≤◌, ℤ, pos, negsuc, ◌≤ℤ◌, All, ◌+ℤ◌, List, [], ◌∷◌, ◌++◌, length, map, min, sum_by, Option, Some, None, if◌then◌else◌, nat_le, slice_get}
 use Rattle.std.specs.Option.{option_map}
 use Rattle.std.specs.List.{AllZip}
+use Rattle.outside.specs.declared.fault.Spot.{Spot}
 use Rattle.outside.specs.declared.fault.Stop.{Stop}
 use Rattle.outside.specs.declared.fault.Stop.TheVariants.{NoMemory, At}
 use Rattle.outside.specs.declared.fault.Kind.{Kind}
@@ -103,9 +104,21 @@ pub record AreFlattened (drawings : List Drawing) (outlines : List Outline) : Ty
   pub no_cycle : HasNoCycle (references drawings)
   pub each : AllZip (IsFlatOutline drawings) drawings outlines
 
--- the call answered a drawing's number and its fault, of which the item is its name
+-- the place of a refusal: its item is the name of the drawing
+pub record IsSpotOf (drawings : List Drawing) (refusal : Refusal) (spot : Spot) : Type 0 where
+  pub kind : spot.kind ≡ refusal.kind
+  pub item : option_map (λ (drawing : Drawing). drawing.name) (slice_get drawings refusal.drawing) ≡ Some spot.item
+  pub at : spot.at ≡ refusal.at
+  pub also : spot.also ≡ 0
+  pub first : spot.first ≡ refusal.first
+  pub second : spot.second ≡ pos 0
+
+abbrev pub IsStopOf : List Drawing → Refusal → Stop → Type 0
+IsStopOf drawings refusal NoMemory = Unit {0}
+IsStopOf drawings refusal (At spot) = IsSpotOf drawings refusal spot
+
+-- a drawing's number and its fault, which is the first of all
 abbrev pub IsRefused : List Drawing → ℕ → Stop → Type 0
 IsRefused drawings number NoMemory = Unit {0}
 IsRefused drawings number (At spot) =
-    (refusal : Refusal) × IsFirstRefusal drawings refusal × (number ≡ refusal.drawing) × (option_map (λ (drawing : Drawing). drawing.name) (slice_get drawings number) ≡ Some spot.item)
-    × (spot.kind ≡ refusal.kind) × (spot.at ≡ refusal.at) × (spot.also ≡ 0) × (spot.first ≡ refusal.first) × (spot.second ≡ pos 0)
+    (refusal : Refusal) × IsFirstRefusal drawings refusal × (number ≡ refusal.drawing) × IsSpotOf drawings refusal spot

@@ -4,7 +4,7 @@ ghost use Rattle.std.specs.Prelude.{◌≡◌, ℕ, ◌≤◌, ◌<◌, None, le
 ghost use Rattle.glif.specs.FirstOutside.{first_given, point_outside};
 ghost use Rattle.compat.specs.Names.{references, first_dangling};
 ghost use Rattle.compat.specs.References.{IsOrder};
-ghost use Rattle.compat.specs.Flattened.{AreFit, AreFlattened, IsFirstRefusal, IsRefused, coordinate_outside, IsFlatOutline};
+ghost use Rattle.compat.specs.Flattened.{AreFit, AreFlattened, IsFirstRefusal, IsRefused, IsStopOf, coordinate_outside};
 ghost use Rattle.compat.specs.Flats.{HasBases, IsJoined, AreKept, kept_fault, fault_from, IsCounted, IsFew, joined_outlines};
 
 use crate::cycle::first_on_cycle;
@@ -141,17 +141,19 @@ fn outlines_of(
     Ok(Seq::from_vec(outlines))
 }
 
-/// The flattened outlines, or the first fault.
-fn outlines_or_refusal(
+/// The flattened outlines, or the first fault, of drawings whose components all name a drawing.
+fn outlines_by(
     alloc: Global,
     drawings: &[Drawing],
-) -> Result<Result<Seq<Outline>, Refusal>, NoMemory> {
-    let graph = match references(alloc, drawings)? {
-        Ok(graph) => graph,
-        Err(refusal) => return Ok(Err(refusal)),
-    };
-    let Some(order) = order_of(alloc, graph.as_slice())? else {
-        let drawing = first_on_cycle(alloc, graph.as_slice())?;
+    graph: &[Seq<usize>],
+) -> Result<Result<Seq<Outline>, Refusal>, NoMemory>
+    requires fit { AreFit drawings.now }
+    requires references { graph.now ≡ references drawings.now }
+    requires named { first_dangling drawings.now ≡ None }
+    ensures { IfOk result (λ found. MatchResult found (AreFlattened drawings.now) (IsFirstRefusal drawings.now)) }
+{
+    let Some(order) = order_of(alloc, graph)? else {
+        let drawing = first_on_cycle(alloc, graph)?;
         return Ok(Err(Refusal {
             drawing,
             kind: Kind::ComponentCycle,
@@ -159,15 +161,36 @@ fn outlines_or_refusal(
             first: 0,
         }));
     };
-    let flats = flats_in(alloc, drawings, graph.as_slice(), order.as_slice())?;
+    let flats = flats_in(alloc, drawings, graph, order.as_slice())?;
     if let Some(refusal) = first_fault(flats.as_slice()) {
         return Ok(Err(refusal));
     }
-    Ok(Ok(outlines_of(alloc, drawings, flats)?))
+    let outlines = outlines_of(alloc, drawings, flats)?;
+    Ok(Ok(outlines))
+}
+
+/// The flattened outlines, or the first fault.
+fn outlines_or_refusal(
+    alloc: Global,
+    drawings: &[Drawing],
+) -> Result<Result<Seq<Outline>, Refusal>, NoMemory>
+    requires { AreFit drawings.now }
+    ensures { IfOk result (λ found. MatchResult found (AreFlattened drawings.now) (IsFirstRefusal drawings.now)) }
+{
+    match references(alloc, drawings)? {
+        Ok(graph) => {
+            let found = outlines_by(alloc, drawings, graph.as_slice())?;
+            Ok(found)
+        }
+        Err(refusal) => Ok(Err(refusal)),
+    }
 }
 
 /// A refusal with the glyph's name, or NoMemory.
-fn stop_of(alloc: Global, drawings: &[Drawing], refusal: Refusal) -> Stop {
+fn stop_of(alloc: Global, drawings: &[Drawing], refusal: Refusal) -> Stop
+    requires { refusal.drawing < length drawings.now }
+    ensures { IsStopOf drawings.now refusal result }
+{
     match drawings[refusal.drawing].name.try_copy(alloc) {
         Ok(item) => Stop::At(Spot {
             kind: refusal.kind,
@@ -196,7 +219,10 @@ fn stop_of(alloc: Global, drawings: &[Drawing], refusal: Refusal) -> Stop {
 /// drawing TooManyPoints where the flattened outline has more than 4,000 points, with their number in `first`, or
 /// 1,000,000,000 where there are more, and CoordinateRange for its first x or y out of −16,384 to 16,383, by contour
 /// and point, with the value in `first`. `Stop::NoMemory` where memory ran out; the number then says nothing.
-pub fn flatten(alloc: Global, drawings: &Seq<Drawing>) -> Result<Seq<Outline>, (u64, Stop)> {
+pub fn flatten(alloc: Global, drawings: &Seq<Drawing>) -> Result<Seq<Outline>, (u64, Stop)>
+    requires { AreFit drawings.now }
+    ensures { MatchResult result (AreFlattened drawings.now) (λ fault. IsRefused drawings.now fault.0 fault.1) }
+{
     match outlines_or_refusal(alloc, drawings.as_slice()) {
         Ok(Ok(outlines)) => Ok(outlines),
         Ok(Err(refusal)) => Err((
