@@ -6,3 +6,4 @@ mod Joined
 mod Kept
 mod Made
 mod Faults
+mod Unique

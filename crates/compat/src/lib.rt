@@ -4,12 +4,14 @@
 mod compared;
 mod cycle;
 mod flat;
+mod laws;
 mod names;
 mod order;
 mod outlines;
 mod refusal;
 
 pub use compared::{Difference, compare, same_bases};
+pub use laws::{flattened_law, refusal_law};
 pub use outlines::flatten;
 
 #[cfg(test)]

@@ -23,6 +23,12 @@ const SQUARE: &[Dot] = &[
     (0, 100, true),
 ];
 
+const OWN: &[Dot] = &[(0, 0, true)];
+
+const DOT: &[Dot] = &[(1, 2, false)];
+
+const FAR: &[Dot] = &[(16383, 0, true), (0, -16384, true)];
+
 fn outline(alloc: Global, contours: &[&[Dot]]) -> Result<Outline, NoMemory> {
     let mut all = Seq::new(alloc);
     for dots in contours {
@@ -158,16 +164,14 @@ fn differences(rt: HostRuntime) -> Result<(), Fail> {
 #[test]
 fn outlines(rt: HostRuntime) -> Result<(), Fail> {
     let alloc = rt.alloc();
-    let dot: &[Dot] = &[(1, 2, false)];
-    let own: &[Dot] = &[(0, 0, true)];
     let text = flattened(alloc, &[])?;
     assert_eq!(rt; text.as_str(), "");
     let text = flattened(
         alloc,
         &[
-            ("pair", &[own], &[("twice", 100, 0), ("dot", 0, 10)]),
+            ("pair", &[OWN], &[("twice", 100, 0), ("dot", 0, 10)]),
             ("twice", &[], &[("dot", 0, 0), ("dot", 5, -5)]),
-            ("dot", &[dot], &[]),
+            ("dot", &[DOT], &[]),
             ("empty", &[], &[]),
         ],
     )?;
@@ -181,7 +185,6 @@ fn outlines(rt: HostRuntime) -> Result<(), Fail> {
 #[test]
 fn faults(rt: HostRuntime) -> Result<(), Fail> {
     let alloc = rt.alloc();
-    let far: &[Dot] = &[(16383, 0, true), (0, -16384, true)];
     let text = flattened(
         alloc,
         &[
@@ -209,14 +212,14 @@ fn faults(rt: HostRuntime) -> Result<(), Fail> {
         alloc,
         &[
             ("a", &[], &[("b", 1, 0)]),
-            ("b", &[far], &[]),
+            ("b", &[FAR], &[]),
             ("c", &[], &[("c", 0, 0)]),
         ],
     )?;
     assert_eq!(rt; text.as_str(), "2 ComponentCycle c 0 0 0 0");
-    let text = flattened(alloc, &[("a", &[], &[("b", 1, -1)]), ("b", &[far], &[])])?;
+    let text = flattened(alloc, &[("a", &[], &[("b", 1, -1)]), ("b", &[FAR], &[])])?;
     assert_eq!(rt; text.as_str(), "0 CoordinateRange a 0 0 16384 0");
-    let text = flattened(alloc, &[("a", &[], &[("b", 0, -1)]), ("b", &[far], &[])])?;
+    let text = flattened(alloc, &[("a", &[], &[("b", 0, -1)]), ("b", &[FAR], &[])])?;
     assert_eq!(rt; text.as_str(), "0 CoordinateRange a 0 0 -16385 0");
     // A base that is out of range, and moved back by the glyph before it.
     let text = flattened(
@@ -224,7 +227,7 @@ fn faults(rt: HostRuntime) -> Result<(), Fail> {
         &[
             ("a", &[], &[("b", -5, 0)]),
             ("b", &[], &[("c", 5, 0)]),
-            ("c", &[far], &[]),
+            ("c", &[FAR], &[]),
         ],
     )?;
     assert_eq!(rt; text.as_str(), "1 CoordinateRange b 0 0 16388 0");

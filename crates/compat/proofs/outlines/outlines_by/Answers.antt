@@ -25,7 +25,7 @@ returns-in-Some-first_fault c =
     let order : IsOrder c.args.graph.now c.in-Some.order.items = rw c.in-Some.is at c.in_ok-order.ensures in
     let acyclic = subst HasNoCycle c.requires.references (no_cycle c.args.graph.now c.in-Some.order.items order) in
     first_refusal c.args.drawings.now c.in_ok-flats.flats.items c.in-Some-first_fault.refusal c.in_ok-flats.ensures c.requires.named acyclic
-      (ap (fault_from 0) (sym c.as_slice-2.ensures.value) ∙ sym c.in-Some-first_fault.ensures)
+    (ap (fault_from 0) (sym c.as_slice-2.ensures.value) ∙ sym c.in-Some-first_fault.ensures)
 
 pub outlines_of-requires-clause-few : goal.outlines_of-requires-clause-few
 outlines_of-requires-clause-few c =
@@ -36,4 +36,4 @@ returns c =
     let order : IsOrder c.args.graph.now c.in-Some.order.items = rw c.in-Some.is at c.in_ok-order.ensures in
     let acyclic = subst HasNoCycle c.requires.references (no_cycle c.args.graph.now c.in-Some.order.items order) in
     are_flattened c.args.drawings.now c.in_ok-flats.flats.items c.in_ok-outlines.outlines c.in_ok-flats.ensures c.requires.named acyclic
-      (ap (fault_from 0) (sym c.as_slice-2.ensures.value) ∙ sym c.in_default-first_fault.ensures) c.in_ok-outlines.ensures
+    (ap (fault_from 0) (sym c.as_slice-2.ensures.value) ∙ sym c.in_default-first_fault.ensures) c.in_ok-outlines.ensures
