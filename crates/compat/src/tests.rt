@@ -1,7 +1,10 @@
 //! What no clause says: that `flatten` succeeds where there is enough memory, and answers worked out by hand.
 
+ghost use Rattle.std.specs.Prelude.{◌≡◌, IsTrue, All};
+ghost use Rattle.compat.specs.Flattened.{IsOffsetWithin, AreFit};
+
 use crate::{Difference, compare, flatten, same_bases};
-use glif::{Component, Drawing, Outline, Point};
+use glif::{Component, Drawing, Outline, Point, within};
 use outside::{Kind, Name, NoMemory, Seq, Stop};
 use std::alloc::{AllocError, Global};
 use std::fmt::Write;
@@ -66,9 +69,50 @@ fn drawing(alloc: Global, sketch: &Sketch) -> Result<Drawing, NoMemory> {
     })
 }
 
+/// Whether an offset is within limits.
+fn is_near(component: &Component) -> bool
+    ensures { IsTrue result → IsOffsetWithin component.now }
+{
+    -16384 <= component.dx
+        && component.dx <= 16383
+        && -16384 <= component.dy
+        && component.dy <= 16383
+}
+
+/// Whether all offsets are within limits.
+fn are_near(components: &[Component]) -> bool
+    ensures { IsTrue result → All IsOffsetWithin components.now }
+{
+    for component in components {
+        if !is_near(component) {
+            return false;
+        }
+    }
+    true
+}
+
+/// Whether `flatten` may be called.
+fn are_fit(drawings: &[Drawing]) -> bool
+    ensures { IsTrue result → AreFit drawings.now }
+{
+    if drawings.len() > 32_510 {
+        return false;
+    }
+    for drawing in drawings {
+        if within(&drawing.outline).is_some() || !are_near(drawing.components.as_slice()) {
+            return false;
+        }
+    }
+    true
+}
+
 /// What `flatten` answers, as text: the outlines, or the number of a drawing and its fault.
 fn answer(alloc: Global, drawings: &Seq<Drawing>) -> Result<String, AllocError> {
     let mut text = String::new(alloc);
+    if !are_fit(drawings.as_slice()) {
+        text.push_str("not fit")?;
+        return Ok(text);
+    }
     match flatten(alloc, drawings) {
         Ok(outlines) => {
             for outline in outlines.as_slice() {
@@ -161,76 +205,83 @@ fn differences(rt: HostRuntime) -> Result<(), Fail> {
     Ok(())
 }
 
-#[test]
-fn outlines(rt: HostRuntime) -> Result<(), Fail> {
-    let alloc = rt.alloc();
-    let text = flattened(alloc, &[])?;
-    assert_eq!(rt; text.as_str(), "");
-    let text = flattened(
-        alloc,
-        &[
-            ("pair", &[OWN], &[("twice", 100, 0), ("dot", 0, 10)]),
-            ("twice", &[], &[("dot", 0, 0), ("dot", 5, -5)]),
-            ("dot", &[DOT], &[]),
-            ("empty", &[], &[]),
-        ],
-    )?;
-    assert_eq!(rt;
-        text.as_str(),
-        "7 [(0,0)] [!(101,2)] [!(106,-3)] [!(1,12)];7 [!(1,2)] [!(6,-3)];7 [!(1,2)];7;"
-    );
-    Ok(())
-}
+/// Drawings without a fault, and their flattened outlines.
+const OUTLINES: ([Sketch; 4], &str) = (
+    [
+        ("pair", &[OWN], &[("twice", 100, 0), ("dot", 0, 10)]),
+        ("twice", &[], &[("dot", 0, 0), ("dot", 5, -5)]),
+        ("dot", &[DOT], &[]),
+        ("empty", &[], &[]),
+    ],
+    "7 [(0,0)] [!(101,2)] [!(106,-3)] [!(1,12)];7 [!(1,2)] [!(6,-3)];7 [!(1,2)];7;",
+);
 
-#[test]
-fn faults(rt: HostRuntime) -> Result<(), Fail> {
-    let alloc = rt.alloc();
-    let text = flattened(
-        alloc,
+/// Drawings, and their first fault.
+const FAULTS: [(&[Sketch], &str); 8] = [
+    (&[], ""),
+    (
         &[
             ("a", &[], &[("b", 0, 0), ("x", 0, 0)]),
             ("b", &[], &[("y", 0, 0)]),
         ],
-    )?;
-    assert_eq!(rt; text.as_str(), "0 DanglingComponent a 1 0 0 0");
-    let text = flattened(
-        alloc,
+        "0 DanglingComponent a 1 0 0 0",
+    ),
+    (
         &[("a", &[], &[("a", 0, 0)]), ("b", &[], &[("y", 0, 0)])],
-    )?;
-    assert_eq!(rt; text.as_str(), "1 DanglingComponent b 0 0 0 0");
-    let text = flattened(
-        alloc,
+        "1 DanglingComponent b 0 0 0 0",
+    ),
+    (
         &[
             ("a", &[], &[("c", 0, 0)]),
             ("b", &[], &[("a", 0, 0)]),
             ("c", &[], &[("d", 0, 0)]),
             ("d", &[], &[("c", 0, 0)]),
         ],
-    )?;
-    assert_eq!(rt; text.as_str(), "2 ComponentCycle c 0 0 0 0");
-    let text = flattened(
-        alloc,
+        "2 ComponentCycle c 0 0 0 0",
+    ),
+    (
         &[
             ("a", &[], &[("b", 1, 0)]),
             ("b", &[FAR], &[]),
             ("c", &[], &[("c", 0, 0)]),
         ],
-    )?;
-    assert_eq!(rt; text.as_str(), "2 ComponentCycle c 0 0 0 0");
-    let text = flattened(alloc, &[("a", &[], &[("b", 1, -1)]), ("b", &[FAR], &[])])?;
-    assert_eq!(rt; text.as_str(), "0 CoordinateRange a 0 0 16384 0");
-    let text = flattened(alloc, &[("a", &[], &[("b", 0, -1)]), ("b", &[FAR], &[])])?;
-    assert_eq!(rt; text.as_str(), "0 CoordinateRange a 0 0 -16385 0");
+        "2 ComponentCycle c 0 0 0 0",
+    ),
+    (
+        &[("a", &[], &[("b", 1, -1)]), ("b", &[FAR], &[])],
+        "0 CoordinateRange a 0 0 16384 0",
+    ),
+    (
+        &[("a", &[], &[("b", 0, -1)]), ("b", &[FAR], &[])],
+        "0 CoordinateRange a 0 0 -16385 0",
+    ),
     // A base that is out of range, and moved back by the glyph before it.
-    let text = flattened(
-        alloc,
+    (
         &[
             ("a", &[], &[("b", -5, 0)]),
             ("b", &[], &[("c", 5, 0)]),
             ("c", &[FAR], &[]),
         ],
-    )?;
-    assert_eq!(rt; text.as_str(), "1 CoordinateRange b 0 0 16388 0");
+        "1 CoordinateRange b 0 0 16388 0",
+    ),
+];
+
+#[test]
+fn outlines(rt: HostRuntime) -> Result<(), Fail> {
+    let alloc = rt.alloc();
+    let (sketches, wanted) = OUTLINES;
+    let text = flattened(alloc, &sketches)?;
+    assert_eq!(rt; text.as_str(), wanted);
+    Ok(())
+}
+
+#[test]
+fn faults(rt: HostRuntime) -> Result<(), Fail> {
+    let alloc = rt.alloc();
+    for (sketches, wanted) in FAULTS {
+        let text = flattened(alloc, sketches)?;
+        assert_eq!(rt; text.as_str(), wanted);
+    }
     Ok(())
 }
 
@@ -280,8 +331,7 @@ fn long_chain(rt: HostRuntime) -> Result<(), Fail> {
         drawings.push(drawing(alloc, &(name.as_str(), &[], &[(base.as_str(), 4, 0)]))?)?;
     }
     drawings.push(drawing(alloc, &("4000", &[&[(0, 0, true)]], &[]))?)?;
-    let outlines = flatten(alloc, &drawings).map_err(|_| NoMemory)?;
-    let x = outlines.as_slice()[0].contours.as_slice()[0].as_slice()[0].x;
-    assert_eq!(rt; x, 16000);
+    let text = answer(alloc, &drawings)?;
+    assert!(rt; text.as_str().starts_with("7 [(16000,0)];7 [(15996,0)];"));
     Ok(())
 }
