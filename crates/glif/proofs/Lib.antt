@@ -3,3 +3,4 @@ mod Many
 mod Pieces
 mod Lines
 pub mod Laws
+mod Outside

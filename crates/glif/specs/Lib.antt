@@ -1,3 +1,5 @@
 pub mod Limits
 pub mod Plain
 pub mod Reading
+pub mod FirstOutside
+pub mod Shapes

@@ -12,16 +12,16 @@ use outside::{Kind, Name, NoMemory, Seq, Spot, Stop};
 use std::alloc::Global;
 
 /// The least coordinate, in font units.
-const LEAST: i32 = -16_384;
+pub(crate) const LEAST: i32 = -16_384;
 
 /// The greatest coordinate and the greatest advance width, in font units.
-const GREATEST: i32 = 16_383;
+pub(crate) const GREATEST: i32 = 16_383;
 
 /// The most points of one contour.
-const CONTOUR_POINTS: usize = 1_024;
+pub(crate) const CONTOUR_POINTS: usize = 1_024;
 
 /// The most points of a glyph, and so the most contours.
-const GLYPH_POINTS: usize = 4_000;
+pub(crate) const GLYPH_POINTS: usize = 4_000;
 
 /// The most letters of a name.
 const LETTERS: usize = 63;

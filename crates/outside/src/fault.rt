@@ -15,10 +15,26 @@ pub enum Kind {
     BadText = 4,
     /// A source text has more than 64 elements one in another.
     TooDeep = 5,
+    /// A coordinate or an advance width is out of its range.
+    CoordinateRange = 12,
+    /// A contour or a glyph has more points than the limit.
+    TooManyPoints = 16,
     /// No source stands at the default of every axis.
     NoDefaultSource = 44,
     /// Two sources stand at one location.
     SameLocation = 45,
+    /// A glyph has other components in one source than in the default source.
+    ComponentShape = 48,
+    /// A component names a glyph that isn't there.
+    DanglingComponent = 49,
+    /// A glyph draws itself through its components.
+    ComponentCycle = 50,
+    /// A glyph has another number of contours in one source than in the default source.
+    ContourCount = 51,
+    /// A contour has another number of points in one source than in the default source.
+    PointCount = 52,
+    /// A point is on the curve in one source and off it in the default source, or the other way round.
+    PointKind = 53,
     /// A delta doesn't fit 16 bits.
     DeltaRange = 58,
     /// A file is there, and is no drawing of the form that is read so far.
@@ -35,8 +51,16 @@ impl Kind {
             Kind::Unfinished => "Unfinished",
             Kind::BadText => "BadText",
             Kind::TooDeep => "TooDeep",
+            Kind::CoordinateRange => "CoordinateRange",
+            Kind::TooManyPoints => "TooManyPoints",
             Kind::NoDefaultSource => "NoDefaultSource",
             Kind::SameLocation => "SameLocation",
+            Kind::ComponentShape => "ComponentShape",
+            Kind::DanglingComponent => "DanglingComponent",
+            Kind::ComponentCycle => "ComponentCycle",
+            Kind::ContourCount => "ContourCount",
+            Kind::PointCount => "PointCount",
+            Kind::PointKind => "PointKind",
             Kind::DeltaRange => "DeltaRange",
             Kind::NotBuilt => "NotBuilt",
         }

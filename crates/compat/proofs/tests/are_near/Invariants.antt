@@ -1,0 +1,7 @@
+use Rattle.std.proofs.Common.{take}
+use Rattle.std.specs.Prelude.{All}
+use Rattle.compat.specs.Flattened.{IsOffsetWithin}
+use Rattle.compat.proofs.tests.are_near.Given as goal
+
+abbrev pub invariant-loop-component : goal.invariant-loop-component
+invariant-loop-component l = All IsOffsetWithin (take l.component-index l.components)

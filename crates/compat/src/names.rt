@@ -1,0 +1,71 @@
+//! Which drawing each component names.
+
+ghost use Rattle.std.specs.Prelude.{◌≡◌, ℕ, List, None, IfOk, MatchResult, Some};
+ghost use Rattle.compat.specs.Names.{number_in, number_of, base_numbers, references, dangling_in, first_dangling};
+
+use crate::refusal::Refusal;
+use glif::Drawing;
+use outside::{Kind, Name, NoMemory, Seq};
+use std::alloc::Global;
+use std::collections::HashMap;
+
+/// The number of each drawing, by its name.
+fn numbers_by_name(alloc: Global, drawings: &[Drawing]) -> Result<HashMap<&str, usize>, NoMemory>
+    ensures { IfOk result (λ numbers. (name : List ℕ) → number_in numbers name ≡ number_of drawings.now name) }
+{
+    let mut numbers = HashMap::new(alloc);
+    for number in (0..drawings.len()).rev() {
+        numbers.insert(drawings[number].name.as_str(), number)?;
+    }
+    Ok(numbers)
+}
+
+/// The number of the drawing of this name.
+fn number_of(numbers: &HashMap<&str, usize>, name: &Name) -> Option<usize>
+    ensures { result ≡ number_in numbers.now name.now }
+{
+    numbers.get(name.as_str()).copied()
+}
+
+/// The numbers of the bases of a drawing's components, or the first component whose base has none.
+fn base_numbers(
+    alloc: Global,
+    numbers: &HashMap<&str, usize>,
+    drawing: &Drawing,
+) -> Result<Result<Seq<usize>, usize>, NoMemory>
+    ensures { IfOk result (λ found. MatchResult found (λ bases. (bases ≡ base_numbers (number_in numbers.now) drawing.now) × (dangling_in (number_in numbers.now) drawing.now ≡ None)) (λ component. dangling_in (number_in numbers.now) drawing.now ≡ Some component)) }
+{
+    let mut bases = Vec::new(alloc);
+    for (place, component) in drawing.components.as_slice().iter().enumerate() {
+        match number_of(numbers, &component.base) {
+            Some(number) => bases.push(number)?,
+            None => return Ok(Err(place)),
+        }
+    }
+    Ok(Ok(Seq::from_vec(bases)))
+}
+
+/// For each drawing the numbers of its components' bases, or the first component whose base is no drawing.
+pub(crate) fn references(
+    alloc: Global,
+    drawings: &[Drawing],
+) -> Result<Result<Seq<Seq<usize>>, Refusal>, NoMemory>
+    ensures { IfOk result (λ found. MatchResult found (λ graph. (graph ≡ references drawings.now) × (first_dangling drawings.now ≡ None)) (λ refusal. first_dangling drawings.now ≡ Some refusal)) }
+{
+    let numbers = numbers_by_name(alloc, drawings)?;
+    let mut graph = Vec::new(alloc);
+    for (number, drawing) in drawings.iter().enumerate() {
+        match base_numbers(alloc, &numbers, drawing)? {
+            Ok(bases) => graph.push(bases)?,
+            Err(component) => {
+                return Ok(Err(Refusal {
+                    drawing: number,
+                    kind: Kind::DanglingComponent,
+                    at: component,
+                    first: 0,
+                }));
+            }
+        }
+    }
+    Ok(Ok(Seq::from_vec(graph)))
+}
