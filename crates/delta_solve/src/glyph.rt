@@ -1,6 +1,5 @@
-ghost use Rattle.std.specs.Prelude.{◌≡◌, ℕ, ℤ, true, false, ◌+◌, ◌<◌, ◌≤◌, ◌++◌, ◌∷◌, [], All, List, length, map, flat_map, IfOk, IfErr, Some, None};
-ghost use Rattle.variation_rules.specs.FontUnits.{AreFWords, IsFWord};
-ghost use Rattle.variation_rules.specs.PackedPoints.{count_from};
+ghost use Rattle.std.specs.Prelude.{◌≡◌, ℤ, true, false, ◌≤◌, ◌∷◌, [], All, List, length, map, IfOk, IfErr, Some, None};
+ghost use Rattle.variation_rules.specs.FontUnits.{AreFWords};
 ghost use Rattle.variation_rules.specs.declared.region.Triple.{Triple};
 ghost use Rattle.glif.specs.Limits.{IsWithinLimits};
 ghost use Rattle.glif.specs.declared.shape.Point.{Point};

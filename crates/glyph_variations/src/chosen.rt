@@ -1,4 +1,4 @@
-ghost use Rattle.std.specs.Prelude.{◌≡◌, ◌+◌, ◌<◌, ◌≤◌, ◌++◌, ℕ, List, IfOk, length};
+ghost use Rattle.std.specs.Prelude.{◌≡◌, ◌≤◌, ℕ, List, IfOk, length};
 ghost use Rattle.fixpoint.specs.declared.plane.Pair.{Pair};
 ghost use Rattle.std.specs.List.{list_all};
 ghost use Rattle.glyph_variations.specs.Variations.{all_deltas, chosen, explicit_in, is_still, picked};

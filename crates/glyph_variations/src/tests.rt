@@ -1,7 +1,6 @@
-ghost use Rattle.std.specs.Prelude.{◌≡◌, ◌≤◌, All, IfOk, length};
+ghost use Rattle.std.specs.Prelude.{◌≡◌, ◌≤◌, IfOk, length};
 ghost use Rattle.variation_rules.specs.FontUnits.{AreFWords};
 ghost use Rattle.delta_solve.specs.GlyphModels.{IsTupleWithin};
-ghost use Rattle.delta_solve.specs.declared.model.GlyphTuple.{GlyphTuple};
 ghost use Rattle.glyph_variations.specs.Conditions.{AreGlyphTuples};
 
 use crate::tuples::{GlyphVariations, variations};

@@ -1,11 +1,9 @@
-ghost use Rattle.std.specs.Prelude.{◌≡◌, ℕ, ◌+◌, ◌*◌, ◌≤◌, List, All, IfOk, length, map};
+ghost use Rattle.std.specs.Prelude.{◌≡◌, ℕ, ◌+◌, ◌≤◌, List, IfOk, length, map};
 ghost use Rattle.fixpoint.specs.declared.plane.Pair.{Pair};
-ghost use Rattle.arrayvec.specs.ArrayVec.{array_vec_len};
 ghost use Rattle.gvar_table.specs.Tuples.{AreTuplesOf, variation_of};
 ghost use Rattle.region_support.specs.Places.{regions_in};
-ghost use Rattle.delta_solve.specs.GlyphModels.{IsTupleWithin};
 ghost use Rattle.glyph_variations.specs.Conditions.{AreGlyphTuples, AreWritable, point_count};
-ghost use Rattle.glyph_variations.specs.Variations.{all_deltas, explicit_points, outline_points, variation_with, variations_of};
+ghost use Rattle.glyph_variations.specs.Variations.{explicit_points, outline_points, variation_with, variations_of};
 
 use crate::chosen::{all_deltas, are_still, chosen, explicit_in, picked};
 use delta_solve::{GlyphModel, GlyphTuple};
@@ -26,7 +24,7 @@ pub struct GlyphVariations {
     pub points: u64,
 }
 
-// The number of outline points is the default's.
+// How many outline points there are: as many as the default has.
 fn outline_of(masters: &[GlyphTuple]) -> usize
     ensures { result ≡ point_count masters.now }
 {

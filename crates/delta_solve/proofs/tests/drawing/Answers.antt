@@ -1,5 +1,4 @@
-use Rattle.std.proofs.Common.{◌≡◌, ℤ, pos, ◌≤ℤ◌, [], ◌∷◌, List, All, length, to_z-of_z, FitsSigned, refl, rules, arith}
-use Rattle.std.proofs.lemmas.Int.{ints}
+use Rattle.std.proofs.Common.{◌≡◌, ℤ, pos, ◌≤ℤ◌, [], ◌∷◌, to_z-of_z, FitsSigned, refl, rules, arith}
 use Rattle.std.proofs.lemmas.List.Elements.{All-cons, All-nil}
 use Rattle.std.specs.Int.{w32}
 use Rattle.glif.specs.Limits.{IsPointWithin, IsContourWithin, IsWithinLimits}

@@ -1,4 +1,4 @@
-use Rattle.std.proofs.Common.{◌≡◌, ℤ, pos, ◌<◌, true, [], ◌∷◌, List, All, length, sym, ◌∙◌, arith}
+use Rattle.std.proofs.Common.{◌≡◌, pos, true, [], ◌∷◌, sym, ◌∙◌, arith}
 use Rattle.std.proofs.lemmas.List.{length_push}
 use Rattle.std.proofs.lemmas.List.Elements.{All-push}
 use Rattle.glif.specs.Limits.{IsWithinLimits}

@@ -1,7 +1,7 @@
-use Rattle.std.proofs.Common.{◌≡◌, ℕ, ◌≤◌, [], ◌∷◌, List, All, length, sym, ◌∙◌, arith}
+use Rattle.std.proofs.Common.{◌≡◌, ◌≤◌, [], ◌∷◌, List, All, length, sym, ◌∙◌, arith}
 use Rattle.delta_solve.specs.GlyphModels.{IsTupleWithin}
 use Rattle.delta_solve.specs.declared.model.GlyphTuple.{GlyphTuple}
-use Rattle.glyph_variations.specs.Conditions.{AreGlyphTuples, point_count}
+use Rattle.glyph_variations.specs.Conditions.{AreGlyphTuples}
 use Rattle.glyph_variations.proofs.tests.tuples.Goals as goal
 
 -- tuples of two points
