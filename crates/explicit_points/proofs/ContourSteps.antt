@@ -1,10 +1,10 @@
 -- The least sets of the contours, contour by contour: what holds before each of them.
 use Rattle.std.proofs.Common.{◌≡◌, ℕ, ◌+◌, ◌<◌, ◌≤◌, List, [], ◌∷◌, ◌++◌, length, map, take, drop, get_or, All, refl, sym, subst, append_assoc, append-nil, arith}
 use Rattle.std.proofs.lemmas.List.{length-take, length-drop, drop_more, drop_all}
-use Rattle.std.proofs.lemmas.List.Elements.{All-nil, All-cons, All-head, All-tail, All-weaker, All-take, All-drop}
+use Rattle.std.proofs.lemmas.List.Elements.{All-nil, All-cons, All-head, All-tail, All-weaker, All-drop}
 use Rattle.fixpoint.specs.declared.plane.Pair.{Pair}
 use Rattle.variation_rules.specs.FontUnits.{AreFWords}
-use Rattle.iup.specs.Arcs.{RisesFrom, IsContour, IsLeastSet}
+use Rattle.iup.specs.Arcs.{RisesFrom, IsLeastSet}
 use Rattle.explicit_points.specs.ExplicitPoints.{IsCount, IsOutline, AreLeastSets}
 use Rattle.explicit_points.proofs.ExplicitLemmas.{rest_is_whole}
 
@@ -15,20 +15,10 @@ pub record AreSetsTo (lengths : List ℕ) (points deltas : List Pair) (k start :
   pub place : start + length points_left ≡ length points
   pub few : length points ≤ 4000
 
-pub sets_begin : (lengths : List ℕ) (points deltas : List Pair) → IsOutline lengths points deltas → AreSetsTo lengths points deltas 0 0 points deltas []
-sets_begin lengths points deltas outline = record {
-  completes = λ more rest. rest;
-  sound = outline;
-  place = omega arith;
-  few = outline.few;
-}
-
 -- the contour that comes next, and those behind it
 pub record IsNext (n : ℕ) (lengths : List ℕ) (points deltas : List Pair) : Type 0 where
   pub inside : n ≤ length points
-  pub inside_deltas : n ≤ length deltas
   pub short : n ≤ 1024
-  pub contour : IsContour (take n points) (take n deltas)
   pub rest : IsOutline lengths (drop n points) (drop n deltas)
 
 next_contour : (n : ℕ) (lengths : List ℕ) (points deltas : List Pair) → IsOutline (n ∷ lengths) points deltas → IsNext n lengths points deltas
@@ -36,21 +26,12 @@ next_contour n lengths points deltas outline =
     let rest = rest_is_whole n lengths points outline.whole in
     let fits : n ≤ length points = rest.0 in
     let count = All-head IsCount n lengths outline.contours in
-    let some : 0 < n = count.some in
     let short : n ≤ 1024 = count.few in
     let same : length deltas ≡ length points = outline.one_each in
     let few : length points ≤ 4000 = outline.few in
     record {
       inside = fits;
-      inside_deltas = omega arith;
       short = short;
-      contour = record {
-        some = omega (arith, length-take n points);
-        few = omega (arith, length-take n points);
-        same = omega (arith, length-take n points, length-take n deltas);
-        points_fit = All-take AreFWords n points outline.points_fit;
-        deltas_fit = All-take AreFWords n deltas outline.deltas_fit;
-      };
       rest = record {
         contours = All-tail IsCount n lengths outline.contours;
         whole = rest.1;
