@@ -30,17 +30,19 @@ fn perform<'a, S: Sources, O: Outputs, T: Say>(
 /// Does what the words ask for, of which the first is the program's name. Files are read from `sources`
 /// and written to `outputs`, and text is said to `say`.
 ///
-/// The words `tuples`, OUT, FIRST`@0` and SECOND`@16384` ask for the variation data of a glyph on one
-/// axis (OpenType, "gvar"), of which the files FIRST and SECOND have the drawings at the default and at
-/// the end of the axis. The files are read in this order, and a fault of the one comes before the other
-/// is read. All is done in memory first; then OUT is begun, the data are appended in one piece, and a
-/// line says what they hold.
+/// The words `tuples`, OUT and 1 to 128 drawings ask for the variation data of a glyph (OpenType, "gvar").
+/// A drawing is a path, `@`, and 1 to 8 coordinates with commas between, whole numbers from -16,384 to
+/// 16,384 that mean -1 to 1 (F2DOT14); all drawings have as many. The files are read in the order of the
+/// words, and a fault of one comes before the next is read. Then come the faults of the masters: no drawing
+/// at the default, two at one place, contours other than the default's, and a delta of more than 16 bits.
+/// All is done in memory first; then OUT is begun, the data are appended in one piece, and a line says what
+/// they hold.
 ///
 /// # Errors
 ///
 /// `Status` says how the run ended. Where that isn't `Ok` a last line is said of it; making it takes no
 /// memory, and where it can't be said the status stays. `Usage` comes exactly where the words are none
-/// of these, and `Refused` exactly where the files have a fault. `ReadFault` and `WriteFault` come only
+/// of these, and `Refused` exactly where the files or the masters have a fault. `ReadFault` and `WriteFault` come only
 /// where a device failed, and `NoMemory` where memory ran out; either may come in place of `Refused`.
 /// `Rejected` doesn't come yet. But for `Ok` and `WriteFault` no file was begun.
 pub fn run<S: Sources, O: Outputs, T: Say>(

@@ -178,7 +178,9 @@ const CASES: [Case; 13] = [
         held: None,
     },
     Case {
-        words: &["vfb", "tuples", "o.bin", "a.glif@5", "b.glif@0", "a.glif@5", "b.glif@0"],
+        words: &[
+            "vfb", "tuples", "o.bin", "a.glif@5", "b.glif@0", "a.glif@5", "b.glif@0",
+        ],
         files: &[("a.glif", TRIANGLE), ("b.glif", PARTED)],
         status: 1,
         said: "refused SameLocation - - 0 2 0 0\n",
@@ -219,7 +221,13 @@ const PATHS: [(&[&str], &str); 4] = [
     (&["", "tuples", "o.bin", "a@b@ 0\n"], "a@b"),
     (&["", "tuples", "o.bin", "@-016384.0"], "-"),
     (
-        &["", "tuples", "o.bin", "a@0,0,0,0,0,0,0,16384", "b@0,0,0,0,0,0,0,0"],
+        &[
+            "",
+            "tuples",
+            "o.bin",
+            "a@0,0,0,0,0,0,0,16384",
+            "b@0,0,0,0,0,0,0,0",
+        ],
         "a",
     ),
 ];

@@ -2,12 +2,16 @@ use super::*;
 
 /// A glyph named `p` of one point.
 pub(super) fn one_point(alloc: Global, x: i32, y: i32) -> Result<String, Fail> {
-    Ok(format!(in alloc; "<glyph name=\"p\" format=\"2\">\n<advance width=\"100\"/>\n<outline>\n<contour>\n<point x=\"{x}\" y=\"{y}\" type=\"line\"/>\n</contour>\n</outline>\n</glyph>\n")?)
+    Ok(format!(in alloc;
+        "<glyph name=\"p\" format=\"2\">\n<advance width=\"100\"/>\n<outline>\n<contour>\n<point x=\"{x}\" y=\"{y}\" type=\"line\"/>\n</contour>\n</outline>\n</glyph>\n"
+    )?)
 }
 
 /// A glyph named `p` without contours.
 fn blank(alloc: Global, width: i32) -> Result<String, Fail> {
-    Ok(format!(in alloc; "<glyph name=\"p\" format=\"2\">\n<advance width=\"{width}\"/>\n<outline>\n</outline>\n</glyph>\n")?)
+    Ok(format!(in alloc;
+        "<glyph name=\"p\" format=\"2\">\n<advance width=\"{width}\"/>\n<outline>\n</outline>\n</glyph>\n"
+    )?)
 }
 
 /// The words of `tuples` for drawings at these places, the first in the file `0`, and so on.
@@ -80,7 +84,10 @@ fn refuses_deltas_of_more_than_16_bits(rt: HostRuntime) -> Result<(), Fail> {
     let places = ["0,0,0", "9,0,0", "0,9,0", "0,0,9", "9,9,9"];
     let (status, said, _) = outcome(alloc, &places, drawings.as_slice())?;
     assert_eq!(rt; status, 1);
-    assert_eq!(rt; said.as_slice(), b"refused DeltaRange - p 1 0 4 -49149\n".as_slice());
+    assert_eq!(rt;
+        said.as_slice(),
+        b"refused DeltaRange - p 1 0 4 -49149\n".as_slice()
+    );
     Ok(())
 }
 
@@ -96,7 +103,10 @@ fn compares_contours_before_deltas(rt: HostRuntime) -> Result<(), Fail> {
     let places = ["0,0", "16384,0", "0,16384", "16384,16384", "1,0"];
     let (status, said, _) = outcome(alloc, &places, drawings.as_slice())?;
     assert_eq!(rt; status, 1);
-    assert_eq!(rt; said.as_slice(), b"refused NotBuilt 4 - 0 0 0 0\n".as_slice());
+    assert_eq!(rt;
+        said.as_slice(),
+        b"refused NotBuilt 4 - 0 0 0 0\n".as_slice()
+    );
     Ok(())
 }
 
@@ -106,7 +116,10 @@ fn counts_the_drawings(rt: HostRuntime) -> Result<(), Fail> {
     let alloc = rt.alloc();
     let (status, said, _) = outcome(alloc, &["0"; 128], &[])?;
     assert_eq!(rt; status, 1);
-    assert_eq!(rt; said.as_slice(), b"refused MissingFile 0 - 0 0 0 0\n".as_slice());
+    assert_eq!(rt;
+        said.as_slice(),
+        b"refused MissingFile 0 - 0 0 0 0\n".as_slice()
+    );
     let (status, said, _) = outcome(alloc, &["0"; 129], &[])?;
     assert_eq!(rt; status, 2);
     assert_eq!(rt; said.as_slice(), b"usage words\n".as_slice());
