@@ -8,7 +8,7 @@ use Rattle.variation_rules.specs.InferredDelta.{still}
 use Rattle.variation_rules.specs.PackedPoints.{RisesWithin}
 use Rattle.iup.specs.Arcs.{given_by}
 use Rattle.iup.proofs.SetLemmas.{IsIn, in_or_not, given_in, given_out}
-use Rattle.explicit_points.specs.ExplicitPoints.{IsGlyph, AreExplicit, ExplicitOnce, ExplicitFills, ExplicitPhantoms, moving_from}
+use Rattle.explicit_points.specs.ExplicitPoints.{IsGlyph, AreLeastSets, AreExplicit, ExplicitOnce, ExplicitFills, ExplicitPhantoms, moving_from}
 use Rattle.explicit_points.proofs.ExplicitLemmas.{fills_from}
 use Rattle.explicit_points.proofs.MovingLemmas.{in_rising, moving_rises, moving_all, still_of_none, none_of_still}
 use Rattle.explicit_points.proofs.SetsLemmas.{sets_once, sets_rise, rises_join, nil_parts, still_of_no_set, no_set_of_still}
@@ -110,3 +110,13 @@ explicit_none lengths points deltas named glyph are =
       let phantom = none_of_still n (drop n deltas) (All-drop (λ (delta : Pair). delta ≡ still) n deltas all) in
       are.all ∙ (ap (λ (xs : List ℕ). xs ++ moving_from n (drop n deltas)) outline ∙ phantom),
     )
+
+-- ---- the outline and the phantom points apart
+
+-- the least sets of the outline, and behind them the phantom points that move
+pub explicit_of : (lengths : List ℕ) (points deltas own behind : List Pair) (outline named : List ℕ) → own ≡ take (length points) deltas → behind ≡ drop (length points) deltas → AreLeastSets 0 lengths points own outline → named ≡ outline ++ moving_from (length points) behind → AreExplicit lengths points deltas named
+explicit_of lengths points deltas own behind outline named front back least all = record {
+  outline = outline;
+  least = subst (λ (ds : List Pair). AreLeastSets 0 lengths points ds outline) front least;
+  all = all ∙ ap (λ (ds : List Pair). outline ++ moving_from (length points) ds) back;
+}
