@@ -20,28 +20,12 @@ use Rattle.delta_solve.specs.GlyphModels.{delta_advance}
 use Rattle.delta_solve.specs.declared.model.GlyphTuple.{GlyphTuple}
 use Rattle.glyph_variations.specs.Variations.{all_deltas, is_still, is_still_tuple, moving, phantom_deltas, picked, variation_with}
 
--- ---- deltas of points that are all named
+-- ---- deltas of the points that a variation names
 
--- the deltas of all points, picked one by one
-picked_from : (front deltas : List Pair) → map (λ point. get_or (front ++ deltas) point still) (count_from (length deltas) (length front)) ≡ deltas
-picked_from front [] = refl
-picked_from front (delta ∷ deltas) =
-    let here : get_or (front ++ delta ∷ deltas) (length front) still ≡ delta = get_or_at front delta deltas still (length front) refl in
-    let regrouped : (front ++ (delta ∷ [])) ++ deltas ≡ front ++ delta ∷ deltas = append_assoc front (delta ∷ []) deltas in
-    let counted : length (front ++ (delta ∷ [])) ≡ length front + 1 = length_push front delta in
-    let rest = picked_from (front ++ (delta ∷ [])) deltas in
-    let moved : map (λ point. get_or (front ++ delta ∷ deltas) point still) (count_from (length deltas) (length front + 1)) ≡ deltas =
-    sym (λ i. map (λ point. get_or (regrouped i) point still) (count_from (length deltas) (counted i))) ∙ rest in
-    λ i. here i ∷ moved i
-
-pub picked_all : (deltas : List Pair) → picked deltas (count_from (length deltas) 0) ≡ deltas
-picked_all deltas = picked_from [] deltas
-
--- so each point of a variation has its delta
-pub names_each : (lengths : List ℕ) (points : List Pair) (region : List Triple) (deltas : List Pair) (k : ℕ) → k < length deltas
-    → named_delta (variation_with lengths points region deltas).points (variation_with lengths points region deltas).deltas k ≡ Some (get_or deltas k still)
-names_each lengths points region deltas k inside =
-    ap (λ given. named_delta (count_from (length deltas) 0) given k) (picked_all deltas) ∙ all_named (length deltas) k deltas refl inside
+-- a variation gives the deltas of the points that it names
+picked_by : (named : List ℕ) (deltas : List Pair) (k : ℕ) → named_delta named (picked deltas named) k ≡ given_by named deltas k
+picked_by [] deltas k = refl
+picked_by (x ∷ named) deltas k = λ i. if x == k then Some (get_or deltas x still) else picked_by named deltas k i
 
 -- ---- tuples in which nothing moves
 
