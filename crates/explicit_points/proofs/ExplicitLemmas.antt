@@ -1,5 +1,5 @@
 -- The least sets of contours: their members, that there is one list of them, and that they fill the contours.
-use Rattle.std.proofs.Common.{◌≡◌, ℕ, suc, ◌+◌, ◌-◌, ◌<◌, ◌≤◌, ◌⊎◌, List, [], ◌∷◌, ◌++◌, length, map, take, drop, get_or, sum, All, Option, Some, None, inl, inr, refl, sym, ◌∙◌, ap, subst, ⊎_elim, arith}
+use Rattle.std.proofs.Common.{◌≡◌, ℕ, ◌+◌, ◌<◌, ◌≤◌, ◌⊎◌, List, [], ◌∷◌, ◌++◌, length, map, take, drop, get_or, sum, All, Option, Some, None, inl, inr, refl, sym, ◌∙◌, ap, subst, ⊎_elim, arith}
 use Rattle.std.proofs.lemmas.List.{length-take, length-drop, get_or-take, get_or-drop}
 use Rattle.std.proofs.lemmas.List.Elements.{All-head, All-tail}
 use Rattle.std.proofs.lemmas.List.Sums.{sum_by-cons}
@@ -7,7 +7,7 @@ use Rattle.fixpoint.specs.declared.plane.Pair.{Pair}
 use Rattle.variation_rules.specs.InferredDelta.{still}
 use Rattle.variation_rules.specs.DrawnOutline.{FillsContours}
 use Rattle.variation_rules.proofs.FillingLemmas.{contour_respects}
-use Rattle.iup.specs.Arcs.{RisesFrom, IsFirstOf, IsLeastSet, given_by}
+use Rattle.iup.specs.Arcs.{RisesFrom, given_by}
 use Rattle.iup.proofs.SetLemmas.{IsIn, in_or_not, in_bounds, given_in, given_out}
 use Rattle.iup.proofs.FillLemmas.{infers_as_filled}
 use Rattle.explicit_points.specs.ExplicitPoints.{IsCount, AreLeastSets}
@@ -90,14 +90,14 @@ fills_from start (n ∷ lengths) points ds named given counts whole same least i
     let rises : RisesFrom 0 n set = subst (λ m. RisesFrom 0 m set) size one.is_set in
     let own : (k : ℕ) → k < length (take n points) → given_by set (take n ds) k ≡ given k =
     λ k below. let near : k < n = omega arith in
-        ⊎_elim
-        (λ (there : IsIn k set).
-        given_in set (take n ds) k there ∙ (ap (λ (d : Pair). Some d) (get_or-take n ds k still near)
-        ∙ sym (inside k (omega arith) (subst (λ (w : List ℕ). IsIn (start + k) w) (sym least.3) (in_shifted start k set more there)))))
-        (λ (absent : IsIn k set → ⊥).
-        given_out set (take n ds) k absent
-        ∙ sym (outside k (omega arith) (λ there. absent (in_first start n k lengths (drop n points) (drop n ds) set more near least.4 (subst (λ (w : List ℕ). IsIn (start + k) w) least.3 there)))))
-        (in_or_not k set)
+    ⊎_elim
+    (λ (there : IsIn k set).
+    given_in set (take n ds) k there ∙ (ap (λ (d : Pair). Some d) (get_or-take n ds k still near)
+    ∙ sym (inside k (omega arith) (subst (λ (w : List ℕ). IsIn (start + k) w) (sym least.3) (in_shifted start k set more there)))))
+    (λ (absent : IsIn k set → ⊥).
+    given_out set (take n ds) k absent
+    ∙ sym (outside k (omega arith) (λ there. absent (in_first start n k lengths (drop n points) (drop n ds) set more near least.4 (subst (λ (w : List ℕ). IsIn (start + k) w) least.3 there)))))
+    (in_or_not k set)
     in (
       contour_respects (take n points) (given_by set (take n ds)) given (take n ds) own
           ((infers_as_filled (take n points) (take n ds) set (omega arith) (omega (arith, length-take n ds)) one.is_set).0 one.infers),

@@ -1,5 +1,5 @@
 -- The law of the explicit points.
-use Rattle.std.proofs.Common.{◌≡◌, ℕ, ◌+◌, ◌-◌, ◌<◌, ◌≤◌, ◌⊎◌, List, [], ◌∷◌, ◌++◌, length, take, drop, get_or, All, ◌↔◌, Some, None, inl, inr, refl, sym, ◌∙◌, ap, subst, ⊎_elim, arith}
+use Rattle.std.proofs.Common.{◌≡◌, ℕ, ◌+◌, ◌-◌, ◌<◌, ◌≤◌, ◌⊎◌, List, [], ◌∷◌, ◌++◌, length, take, drop, get_or, All, ◌↔◌, Some, None, inl, inr, sym, ◌∙◌, ap, subst, ⊎_elim, arith}
 use Rattle.std.proofs.lemmas.List.{length-take, length-drop, get_or-take, get_or-drop, take-append-drop}
 use Rattle.std.proofs.lemmas.List.Elements.{All-append, All-take, All-drop}
 use Rattle.std.specs.Option.{unwrap_or}
@@ -69,7 +69,7 @@ module _ (lengths : List ℕ) (points deltas : List Pair) (named : List ℕ) (gl
       (λ (there : IsIn phantom named). ap (λ o. unwrap_or o still) (given_in named deltas phantom there))
       (λ (absent : IsIn phantom named → ⊥).
       let alone : get_or (drop n deltas) k still ≡ still = moving_all n k (drop n deltas)
-          (λ there. absent (subst (λ (xs : List ℕ). IsIn phantom xs) (sym are.all) (in_end phantom are.outline (moving_from n (drop n deltas)) (subst (λ x. IsIn x (moving_from n (drop n deltas))) place there))))
+      (λ there. absent (subst (λ (xs : List ℕ). IsIn phantom xs) (sym are.all) (in_end phantom are.outline (moving_from n (drop n deltas)) (subst (λ x. IsIn x (moving_from n (drop n deltas))) place there))))
       in
       ap (λ o. unwrap_or o still) (given_out named deltas phantom absent)
       ∙ (sym alone ∙ (get_or-drop n deltas k still ∙ ap (λ x. get_or deltas x still) place)))
@@ -101,14 +101,14 @@ explicit_none lengths points deltas named glyph are =
     let n = length points in
     let size : length deltas ≡ n + 4 = glyph.phantom_points in (
       λ none.
-      let parts = nil_parts are.outline (moving_from n (drop n deltas)) (sym are.all ∙ none) in
-      let outline = still_of_no_set 0 lengths points (take n deltas) are.outline glyph.whole (omega (arith, length-take n deltas)) are.least parts.0 in
-      let phantom = still_of_none n (drop n deltas) parts.1 in
-      subst (λ (ds : List Pair). All (λ delta. delta ≡ still) ds) (take-append-drop n deltas) (All-append (λ (delta : Pair). delta ≡ still) (take n deltas) (drop n deltas) outline phantom),
+          let parts = nil_parts are.outline (moving_from n (drop n deltas)) (sym are.all ∙ none) in
+          let outline = still_of_no_set 0 lengths points (take n deltas) are.outline glyph.whole (omega (arith, length-take n deltas)) are.least parts.0 in
+          let phantom = still_of_none n (drop n deltas) parts.1 in
+          subst (λ (ds : List Pair). All (λ delta. delta ≡ still) ds) (take-append-drop n deltas) (All-append (λ (delta : Pair). delta ≡ still) (take n deltas) (drop n deltas) outline phantom),
       λ all.
-      let outline = no_set_of_still 0 lengths points (take n deltas) are.outline are.least (All-take (λ (delta : Pair). delta ≡ still) n deltas all) in
-      let phantom = none_of_still n (drop n deltas) (All-drop (λ (delta : Pair). delta ≡ still) n deltas all) in
-      are.all ∙ (ap (λ (xs : List ℕ). xs ++ moving_from n (drop n deltas)) outline ∙ phantom),
+          let outline = no_set_of_still 0 lengths points (take n deltas) are.outline are.least (All-take (λ (delta : Pair). delta ≡ still) n deltas all) in
+          let phantom = none_of_still n (drop n deltas) (All-drop (λ (delta : Pair). delta ≡ still) n deltas all) in
+          are.all ∙ (ap (λ (xs : List ℕ). xs ++ moving_from n (drop n deltas)) outline ∙ phantom),
     )
 
 -- ---- the outline and the phantom points apart

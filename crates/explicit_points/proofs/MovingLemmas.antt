@@ -1,5 +1,5 @@
 -- The points that move: their numbers, and that no other moves.
-use Rattle.std.proofs.Common.{◌≡◌, ℕ, ℤ, pos, zero, suc, ◌+◌, ◌<◌, ◌≤◌, ◌⊎◌, Bool, true, false, List, [], ◌∷◌, ◌++◌, length, get_or, All, inl, inr, refl, sym, ◌∙◌, ap, subst, ⊎_elim, arith}
+use Rattle.std.proofs.Common.{◌≡◌, ℕ, ℤ, pos, zero, suc, ◌+◌, ◌<◌, ◌≤◌, true, false, List, [], ◌∷◌, length, get_or, All, inl, inr, refl, sym, ◌∙◌, ap, subst, ⊎_elim, arith}
 use Rattle.std.specs.Ordering.{int_eq}
 use Rattle.std.proofs.lemmas.Bool.{and_parts, cases_Bool}
 use Rattle.std.proofs.lemmas.Bool.Decides.{Decides-int_eq}
@@ -69,10 +69,10 @@ moving_all number zero (delta ∷ deltas) absent =
 moving_all number (suc k) (delta ∷ deltas) absent =
     let on : number + 1 + k ≡ number + suc k = omega arith in
     moving_all (number + 1) k deltas (λ there. let place = subst (λ x. IsIn x (moving_from (number + 1) deltas)) on there in
-        ⊎_elim
-        (λ (is : is_still delta ≡ true). absent (rw (moving_skips number delta deltas is) place))
-        (λ (isnt : is_still delta ≡ false). absent (rw (moving_takes number delta deltas isnt) (inr place)))
-        (cases_Bool (is_still delta)))
+    ⊎_elim
+    (λ (is : is_still delta ≡ true). absent (rw (moving_skips number delta deltas is) place))
+    (λ (isnt : is_still delta ≡ false). absent (rw (moving_takes number delta deltas isnt) (inr place)))
+    (cases_Bool (is_still delta)))
 
 -- ---- nothing moves exactly where there is no number
 

@@ -4,6 +4,8 @@
 
 mod laws;
 mod named;
+#[cfg(test)]
+mod tests;
 
 pub use laws::explicit_law;
 pub use named::explicit_points;

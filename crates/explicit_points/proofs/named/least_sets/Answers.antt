@@ -1,8 +1,8 @@
-use Rattle.std.proofs.Common.{◌≡◌, ◌+◌, ◌<◌, ◌≤◌, ◌++◌, List, ℕ, length, map, take, drop, get_or, All, sym, ◌∙◌, ap, subst, refl}
+use Rattle.std.proofs.Common.{◌≡◌, ◌+◌, ◌<◌, ◌++◌, List, ℕ, length, map, take, drop, get_or, ◌∙◌, ap, subst, refl}
 use Rattle.fixpoint.specs.declared.plane.Pair.{Pair}
 use Rattle.iup.specs.Arcs.{IsLeastSet}
 use Rattle.iup_optimal.specs.LeastSets.{IsLeast}
-use Rattle.explicit_points.proofs.ContourSteps.{AreSetsTo, sets_next, sets_push, sets_end, set_below}
+use Rattle.explicit_points.proofs.ContourSteps.{sets_next, sets_push, sets_end, set_below}
 use Rattle.explicit_points.proofs.named.least_sets.Goals as goal
 
 -- the set found is the least one of the next contour
