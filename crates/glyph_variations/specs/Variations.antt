@@ -36,7 +36,7 @@ is_still_tuple tuple = list_all is_still (all_deltas tuple)
 abbrev pub AreMoving : List ℕ → List Pair → List (List Triple) → List GlyphTuple → List TupleVariation → Type 0
 AreMoving lengths points (region ∷ regions) (tuple ∷ tuples) found =
     MatchBool (is_still_tuple tuple) (AreMoving lengths points regions tuples found)
-      ((own : TupleVariation) × (more : List TupleVariation) × IsVariation lengths points region (all_deltas tuple) own × (found ≡ own ∷ more) × AreMoving lengths points regions tuples more)
+    ((own : TupleVariation) × (more : List TupleVariation) × IsVariation lengths points region (all_deltas tuple) own × (found ≡ own ∷ more) × AreMoving lengths points regions tuples more)
 AreMoving lengths points _ _ found = found ≡ []
 
 -- The tuple variations of a glyph: contours of so many points, the regions of the masters in their order, and their

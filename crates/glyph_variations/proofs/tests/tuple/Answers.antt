@@ -1,8 +1,7 @@
-use Rattle.std.proofs.Common.{◌≡◌, ℤ, pos, negsuc, ◌≤ℤ◌, [], ◌∷◌, to_z-of_z, FitsSigned, refl, rules}
+use Rattle.std.proofs.Common.{◌≡◌, pos, negsuc, ◌≤ℤ◌, [], ◌∷◌, to_z-of_z, FitsSigned, refl, rules}
 use Rattle.std.specs.Int.{w32}
 use Rattle.std.proofs.lemmas.List.Elements.{All-cons, All-nil}
 use Rattle.variation_rules.specs.FontUnits.{AreFWords, IsFWord}
-use Rattle.delta_solve.specs.GlyphModels.{IsTupleWithin}
 use Rattle.glyph_variations.proofs.tests.tuple.Goals as goal
 
 pub returns-clause-within : goal.returns-clause-within

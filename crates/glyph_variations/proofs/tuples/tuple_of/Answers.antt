@@ -1,4 +1,4 @@
-use Rattle.std.proofs.Common.{◌≡◌, ◌∙◌, ap}
+use Rattle.std.proofs.Common.{◌∙◌, ap}
 use Rattle.std.proofs.lemmas.List.Elements.{same_from_all_zip}
 use Rattle.glyph_variations.specs.Variations.{picked}
 use Rattle.glyph_variations.proofs.tuples.tuple_of.Goals as goal
