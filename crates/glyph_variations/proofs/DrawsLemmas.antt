@@ -1,30 +1,34 @@
 -- The tuple variations of a glyph draw the model of its masters.
-use Rattle.std.proofs.Common.{◌≡◌, ℕ, ℤ, zero, suc, pos, ◌<◌, ◌≤◌, ◌+ℤ◌, ◌-ℤ◌, ◌*ℤ◌, List, [], ◌∷◌, ◌++◌, length, map, get_or, All, sum, refl, sym, ◌∙◌, ap, subst, arith}
+use Rattle.std.proofs.Common.{◌≡◌, ℕ, ℤ, zero, suc, pos, ◌+◌, ◌<◌, ◌≤◌, ◌+ℤ◌, ◌-ℤ◌, ◌*ℤ◌, List, [], ◌∷◌, ◌++◌, length, map, get_or, All, sum, refl, sym, ◌∙◌, ap, subst, arith}
 use Rattle.std.proofs.lemmas.Int.{ints}
 use Rattle.std.proofs.lemmas.List.{ext_get_or, get_or-map, length-map}
 use Rattle.std.proofs.lemmas.List.Concat.{length-flat_map}
-use Rattle.std.proofs.lemmas.List.Elements.{All-tail}
+use Rattle.std.proofs.lemmas.List.Elements.{All-head, All-tail}
 use Rattle.std.proofs.lemmas.List.Sums.{sum-map}
 use Rattle.fixpoint.specs.Rounding.{round_up, round_down}
 use Rattle.fixpoint.specs.declared.plane.Pair.{Pair}
 use Rattle.fixpoint.proofs.RoundingLemmas.{comes_back, scaled_by_one}
+use Rattle.glif.specs.Limits.{IsWithinLimits}
 use Rattle.glif.specs.declared.shape.Outline.{Outline}
 use Rattle.glif.specs.declared.shape.Point.{Point}
 use Rattle.variation_rules.specs.InferredDelta.{still}
-use Rattle.variation_rules.specs.DrawnOutline.{Fills}
+use Rattle.variation_rules.specs.DrawnOutline.{Fills, phantom_movement}
 use Rattle.variation_rules.specs.Scalar.{scalar_of}
 use Rattle.variation_rules.specs.declared.region.Triple.{Triple}
 use Rattle.variation_rules.specs.declared.tuple.TupleVariation.{TupleVariation}
 use Rattle.region_support.specs.Regions.{AreTriangular, FirstIsWhole, regions_of}
 use Rattle.region_support.proofs.RegionLaw.{first_is_whole, own_one_later_nothing}
 use Rattle.delta_solve.specs.Deltas.{ComeBack, deltas_behind, deltas_by, deltas_of, dot, model_value, next_delta, scalars_at, whole_rows}
-use Rattle.delta_solve.specs.GlyphModels.{AreTuplesBy, default_of, delta_advance, delta_x, delta_y}
+use Rattle.delta_solve.specs.GlyphModels.{AreTuplesBy, IsTupleWithin, default_of, delta_advance, delta_x, delta_y}
 use Rattle.delta_solve.specs.Outlines.{advance_of, all_points, contour_lengths, place, points_of, x_at, x_of, y_at, y_of}
 use Rattle.delta_solve.specs.declared.model.GlyphTuple.{GlyphTuple}
+use Rattle.delta_solve.proofs.GlyphLemmas.{few_points}
 use Rattle.delta_solve.proofs.MasterLaw.{masters_return}
+use Rattle.explicit_points.specs.ExplicitPoints.{IsCount}
 use Rattle.glyph_variations.specs.Draws.{Draws, DrawsMasters, DrawsModel, ModelsAreDrawn}
-use Rattle.glyph_variations.specs.Variations.{variations_of}
-use Rattle.glyph_variations.proofs.MovingLemmas.{moving_advance, moving_filled, moving_fills, moving_moves}
+use Rattle.glyph_variations.specs.Variations.{AreMoving, AreVariations}
+use Rattle.glyph_variations.proofs.GlyphLemmas.{counts_within, is_glyph_of}
+use Rattle.glyph_variations.proofs.MovingLemmas.{IsGlyphOf, moving_advance, moving_filled, moving_fills, moving_moves}
 
 -- ---- the default's delta is its value
 
@@ -57,7 +61,7 @@ default_advance row rows outline outlines tuple tuples are =
     ap (λ deltas. get_or deltas 0 (pos 0)) are.advances ∙ first_delta row (advance_of outline)
 
 -- an outline has the points of its contours
-outline_count : (outline : Outline) → sum (contour_lengths outline) ≡ length (points_of outline)
+pub outline_count : (outline : Outline) → sum (contour_lengths outline) ≡ length (points_of outline)
 outline_count outline =
     omega (arith, length-map (all_points outline) place, length-flat_map (λ (contour : List Point). contour) outline.contours, sum-map length outline.contours)
 
@@ -70,27 +74,29 @@ value_over region regions at number tuple tuples whole = ap (λ scalar. (scalar 
 
 -- ---- what is drawn
 
-drawn_over : (regions : List (List Triple)) (region : List Triple) (rows : List (List ℤ)) (row : List ℤ) (locations : List (List ℤ)) (lengths : List ℕ) (outline : Outline) (outlines : List Outline) (tuple : GlyphTuple) (tuples : List GlyphTuple)
+drawn_over : (regions : List (List Triple)) (region : List Triple) (rows : List (List ℤ)) (row : List ℤ) (locations : List (List ℤ)) (lengths : List ℕ) (outline : Outline) (outlines : List Outline) (tuple : GlyphTuple) (tuples : List GlyphTuple) (found : List TupleVariation)
     → FirstIsWhole (region ∷ regions) → whole_rows (region ∷ regions) locations ≡ row ∷ rows → AreTuplesBy (row ∷ rows) (outline ∷ outlines) (tuple ∷ tuples)
-    → DrawsModel (region ∷ regions) locations (outline ∷ outlines) (variations_of lengths (region ∷ regions) (tuple ∷ tuples)) (moving_fills regions tuples)
-drawn_over regions region rows row locations lengths outline outlines tuple tuples whole rows_are are =
+    → All (IsGlyphOf lengths tuple.deltas) tuples → AreMoving lengths tuple.deltas regions tuples found
+    → DrawsModel (region ∷ regions) locations (outline ∷ outlines) found (moving_fills regions tuples)
+drawn_over regions region rows row locations lengths outline outlines tuple tuples found whole rows_are are glyphs moving =
     let all = region ∷ regions in
     let same = default_deltas row rows outline outlines tuple tuples are in record {
       xs = λ at point below.
-          ap (λ z. (pos 65536 *ℤ x_at point (points_of outline)) +ℤ z) (moving_moves (λ (pair : Pair). pair.x) lengths tuple.deltas regions tuples at point refl)
+          ap (λ z. (pos 65536 *ℤ x_at point (points_of outline)) +ℤ z) (moving_moves (λ (pair : Pair). pair.x) lengths tuple.deltas regions tuples found at point refl moving)
           ∙ (ap (λ deltas. (pos 65536 *ℤ x_at point deltas) +ℤ dot (scalars_at regions at) (map (delta_x point) tuples)) (sym same)
           ∙ (sym (value_over region regions at (delta_x point) tuple tuples (whole 16 at))
           ∙ (ap (λ deltas. model_value all deltas at) (are.xs point below) ∙ ap (λ rows. model_value all (deltas_by rows (map (x_of point) (outline ∷ outlines))) at) (sym rows_are))));
       ys = λ at point below.
-          ap (λ z. (pos 65536 *ℤ y_at point (points_of outline)) +ℤ z) (moving_moves (λ (pair : Pair). pair.y) lengths tuple.deltas regions tuples at point refl)
+          ap (λ z. (pos 65536 *ℤ y_at point (points_of outline)) +ℤ z) (moving_moves (λ (pair : Pair). pair.y) lengths tuple.deltas regions tuples found at point refl moving)
           ∙ (ap (λ deltas. (pos 65536 *ℤ y_at point deltas) +ℤ dot (scalars_at regions at) (map (delta_y point) tuples)) (sym same)
           ∙ (sym (value_over region regions at (delta_y point) tuple tuples (whole 16 at))
           ∙ (ap (λ deltas. model_value all deltas at) (are.ys point below) ∙ ap (λ rows. model_value all (deltas_by rows (map (y_of point) (outline ∷ outlines))) at) (sym rows_are))));
       advances = λ at.
-          ap (λ z. (pos 65536 *ℤ advance_of outline) +ℤ z) (moving_advance lengths tuple.deltas regions tuples at (length (points_of outline)) (All-tail (λ (tuple : GlyphTuple). length tuple.deltas ≡ length (points_of outline)) tuple tuples are.points))
+          ap (λ (deltas : List Pair). (pos 65536 *ℤ advance_of outline) +ℤ phantom_movement at found (length deltas + 1)) (sym same)
+          ∙ (ap (λ z. (pos 65536 *ℤ advance_of outline) +ℤ z) (moving_advance lengths tuple.deltas regions tuples found at glyphs moving)
           ∙ (ap (λ advance. (pos 65536 *ℤ advance) +ℤ dot (scalars_at regions at) (map delta_advance tuples)) (sym (default_advance row rows outline outlines tuple tuples are))
           ∙ (sym (value_over region regions at delta_advance tuple tuples (whole 16 at))
-          ∙ (ap (λ deltas. model_value all deltas at) are.advances ∙ ap (λ rows. model_value all (deltas_by rows (map advance_of (outline ∷ outlines))) at) (sym rows_are))));
+          ∙ (ap (λ deltas. model_value all deltas at) are.advances ∙ ap (λ rows. model_value all (deltas_by rows (map advance_of (outline ∷ outlines))) at) (sym rows_are)))));
     }
 
 -- ---- at the masters' locations
@@ -137,9 +143,9 @@ none_behind [] = refl
 none_behind (row ∷ rows) = refl
 
 -- without an outline nothing is drawn
-no_variations : (lengths : List ℕ) (regions : List (List Triple)) → variations_of lengths regions [] ≡ []
-no_variations lengths [] = refl
-no_variations lengths (region ∷ regions) = refl
+no_variations : (lengths : List ℕ) (regions : List (List Triple)) (found : List TupleVariation) → AreVariations lengths regions [] found → found ≡ []
+no_variations lengths [] found are = are
+no_variations lengths (region ∷ regions) found are = are
 
 nothing_drawn : (regions : List (List Triple)) (locations : List (List ℤ)) → Draws regions locations [] []
 nothing_drawn regions locations = record {
@@ -157,30 +163,40 @@ nothing_drawn regions locations = record {
   };
 }
 
-draws : (regions : List (List Triple)) (locations : List (List ℤ)) (outlines : List Outline) (lengths : List ℕ) (tuples : List GlyphTuple) → FirstIsWhole regions → AreTriangular regions locations → lengths ≡ contour_lengths (default_of outlines) → AreTuplesBy (whole_rows regions locations) outlines tuples
-    → Draws regions locations outlines (variations_of lengths regions tuples)
-draws regions locations [] lengths [] whole ends lengths_are are = subst (Draws regions locations []) (sym (no_variations lengths regions)) (nothing_drawn regions locations)
-draws regions locations [] lengths (tuple ∷ tuples) whole ends lengths_are are = absurd (let count = are.one_each in omega arith)
-draws regions [] (outline ∷ outlines) lengths tuples whole ends lengths_are are = absurd (let enough = location_each regions [] (outline ∷ outlines) tuples are in omega arith)
-draws [] (at ∷ ats) (outline ∷ outlines) lengths tuples whole ends lengths_are are = absurd ends
-draws (region ∷ regions) (at ∷ ats) (outline ∷ outlines) lengths [] whole ends lengths_are are = absurd (let count = are.one_each in omega arith)
-draws (region ∷ regions) (at ∷ ats) (outline ∷ outlines) lengths (tuple ∷ tuples) whole ends lengths_are are =
+-- each master's tuple is one of the default's glyph
+glyphs_of : (rows : List (List ℤ)) (lengths : List ℕ) (outline : Outline) (outlines : List Outline) (tuple : GlyphTuple) (tuples : List GlyphTuple) → lengths ≡ contour_lengths outline → tuple.deltas ≡ points_of outline → IsWithinLimits outline → All IsTupleWithin (tuple ∷ tuples) → AreTuplesBy rows (outline ∷ outlines) (tuple ∷ tuples)
+    → All (IsGlyphOf lengths tuple.deltas) tuples
+glyphs_of rows lengths outline outlines tuple tuples lengths_are same limits within are =
+    let contours : All IsCount lengths = subst (All IsCount) (sym lengths_are) (counts_within outline limits) in
+    let whole : sum lengths ≡ length tuple.deltas = ap sum lengths_are ∙ (outline_count outline ∙ ap length (sym same)) in
+    let few : length tuple.deltas ≤ 4000 = omega (arith, ap length same, length-map (all_points outline) place, few_points outline limits) in
+    let own : IsTupleWithin tuple = All-head IsTupleWithin tuple tuples within in
+    let others : All IsTupleWithin tuples = All-tail IsTupleWithin tuple tuples within in
+    let one_each : All (λ (tuple : GlyphTuple). length tuple.deltas ≡ length (points_of outline)) tuples = All-tail (λ (tuple : GlyphTuple). length tuple.deltas ≡ length (points_of outline)) tuple tuples are.points in
+    λ k d below. is_glyph_of lengths tuple.deltas (get_or tuples k d) contours whole few own.deltas (one_each k d below ∙ ap length (sym same)) (others k d below)
+
+draws : (regions : List (List Triple)) (locations : List (List ℤ)) (outlines : List Outline) (lengths : List ℕ) (tuples : List GlyphTuple) (found : List TupleVariation) → FirstIsWhole regions → AreTriangular regions locations → lengths ≡ contour_lengths (default_of outlines) → All IsWithinLimits outlines → All IsTupleWithin tuples → AreTuplesBy (whole_rows regions locations) outlines tuples
+    → AreVariations lengths regions tuples found → Draws regions locations outlines found
+draws regions locations [] lengths [] found whole ends lengths_are limits within are variations = subst (Draws regions locations []) (sym (no_variations lengths regions found variations)) (nothing_drawn regions locations)
+draws regions locations [] lengths (tuple ∷ tuples) found whole ends lengths_are limits within are variations = absurd (let count = are.one_each in omega arith)
+draws regions [] (outline ∷ outlines) lengths tuples found whole ends lengths_are limits within are variations = absurd (let enough = location_each regions [] (outline ∷ outlines) tuples are in omega arith)
+draws [] (at ∷ ats) (outline ∷ outlines) lengths tuples found whole ends lengths_are limits within are variations = absurd ends
+draws (region ∷ regions) (at ∷ ats) (outline ∷ outlines) lengths [] found whole ends lengths_are limits within are variations = absurd (let count = are.one_each in omega arith)
+draws (region ∷ regions) (at ∷ ats) (outline ∷ outlines) lengths (tuple ∷ tuples) found whole ends lengths_are limits within are variations =
     let all = region ∷ regions in
     let row = scalars_at all at in
     let rows = map (scalars_at all) ats in
     let own_fills = moving_fills regions tuples in
-    let own = variations_of lengths all (tuple ∷ tuples) in
     let same = default_deltas row rows outline outlines tuple tuples are in
-    let points : sum lengths ≡ length tuple.deltas = ap sum lengths_are ∙ (outline_count outline ∙ ap length (sym same)) in
-    let one_each : All (λ (tuple : GlyphTuple). length tuple.deltas ≡ length (points_of outline)) tuples = All-tail (λ (tuple : GlyphTuple). length tuple.deltas ≡ length (points_of outline)) tuple tuples are.points in
-    let drawn = drawn_over regions region rows row (at ∷ ats) lengths outline outlines tuple tuples whole refl are in
-    let filled = moving_filled lengths tuple.deltas regions tuples points (λ k d below. one_each k d below ∙ ap length (sym same)) in record {
+    let glyphs = glyphs_of (row ∷ rows) lengths outline outlines tuple tuples lengths_are same (All-head IsWithinLimits outline outlines limits) within are in
+    let drawn = drawn_over regions region rows row (at ∷ ats) lengths outline outlines tuple tuples found whole refl are glyphs variations in
+    let filled = moving_filled lengths tuple.deltas regions tuples found glyphs variations in record {
       fills = own_fills;
-      are_fills = subst (λ counts. Fills counts (points_of outline) own own_fills) lengths_are (subst (λ deltas. Fills lengths deltas own own_fills) same filled);
+      are_fills = subst (λ counts. Fills counts (points_of outline) found own_fills) lengths_are (subst (λ deltas. Fills lengths deltas found own_fills) same filled);
       model = drawn;
-      masters = masters_drawn all (at ∷ ats) (outline ∷ outlines) own own_fills ends (location_each all (at ∷ ats) (outline ∷ outlines) (tuple ∷ tuples) are) drawn;
+      masters = masters_drawn all (at ∷ ats) (outline ∷ outlines) found own_fills ends (location_each all (at ∷ ats) (outline ∷ outlines) (tuple ∷ tuples) are) drawn;
     }
 
 pub models_are_drawn : ModelsAreDrawn
-models_are_drawn axes locations outlines model masters made =
-    draws (regions_of locations) locations outlines model.lengths model.tuples (first_is_whole axes locations masters) (own_one_later_nothing axes locations masters) made.lengths made.tuples
+models_are_drawn axes locations outlines model found masters limits within made variations =
+    draws (regions_of locations) locations outlines model.lengths model.tuples found (first_is_whole axes locations masters) (own_one_later_nothing axes locations masters) made.lengths limits within made.tuples variations

@@ -1,4 +1,5 @@
 pub mod MovingLemmas
+pub mod GlyphLemmas
 pub mod DrawsLemmas
 pub mod LoopLemmas
 pub mod ModelLemmas

@@ -1,13 +1,18 @@
 -- The model of outlines within limits is one of a glyph whose variations can be made.
-use Rattle.std.proofs.Common.{◌≡◌, ℤ, ◌≤◌, List, [], ◌∷◌, length, All, refl, sym, ◌∙◌, arith}
+use Rattle.std.proofs.Common.{◌≡◌, ℤ, ◌≤◌, List, [], ◌∷◌, length, sum, All, refl, sym, ◌∙◌, ap, subst, arith}
 use Rattle.std.proofs.lemmas.List.{length-map}
+use Rattle.std.proofs.lemmas.List.Elements.{All-nil}
 use Rattle.glif.specs.Limits.{IsWithinLimits}
 use Rattle.glif.specs.declared.shape.Outline.{Outline}
-use Rattle.delta_solve.specs.GlyphModels.{AreTuplesBy, IsTupleWithin, default_of}
-use Rattle.delta_solve.specs.Outlines.{all_points, place, points_of}
+use Rattle.explicit_points.specs.ExplicitPoints.{IsCount}
+use Rattle.delta_solve.specs.GlyphModels.{AreTuplesBy, IsModelBy, IsTupleWithin, default_of}
+use Rattle.delta_solve.specs.Outlines.{all_points, contour_lengths, place, points_of}
+use Rattle.delta_solve.specs.declared.model.GlyphModel.{GlyphModel}
 use Rattle.delta_solve.specs.declared.model.GlyphTuple.{GlyphTuple}
 use Rattle.delta_solve.proofs.GlyphLemmas.{few_points}
-use Rattle.glyph_variations.specs.Conditions.{AreGlyphTuples, point_count}
+use Rattle.glyph_variations.specs.Conditions.{AreGlyphTuples, IsVariable, point_count}
+use Rattle.glyph_variations.proofs.DrawsLemmas.{outline_count}
+use Rattle.glyph_variations.proofs.GlyphLemmas.{counts_within}
 
 -- it has the points of the default's outline
 pub points_of_default : (rows : List (List ℤ)) (outlines : List Outline) (tuples : List GlyphTuple) → AreTuplesBy rows outlines tuples → point_count tuples ≡ length (points_of (default_of outlines))
@@ -27,3 +32,15 @@ are_glyph_tuples rows outlines tuples are within limits few =
       alike = λ k d below. are.points k d below ∙ sym count;
       within = within;
     }
+
+-- the contours of the default's outline
+default_counts : (outlines : List Outline) → All IsWithinLimits outlines → All IsCount (contour_lengths (default_of outlines))
+default_counts [] limits = All-nil IsCount
+default_counts (outline ∷ outlines) limits = counts_within outline (limits 0 outline (omega arith))
+
+pub is_variable : (rows : List (List ℤ)) (outlines : List Outline) (model : GlyphModel) → IsModelBy rows outlines model → All IsTupleWithin model.tuples → All IsWithinLimits outlines → length outlines ≤ 128 → IsVariable model.lengths model.tuples
+is_variable rows outlines model is within limits few = record {
+  contours = subst (All IsCount) (sym is.lengths) (default_counts outlines limits);
+  whole = ap sum is.lengths ∙ (outline_count (default_of outlines) ∙ sym (points_of_default rows outlines model.tuples is.tuples));
+  tuples_are = are_glyph_tuples rows outlines model.tuples is.tuples within limits few;
+}

@@ -1,47 +1,44 @@
 -- What the tuple variations of the masters behind the default add to each point.
-use Rattle.std.proofs.Common.{◌≡◌, ◌≢◌, ◌⊎◌, ℕ, ℤ, zero, suc, pos, ◌+◌, ◌<◌, ◌+ℤ◌, ◌*ℤ◌, Bool, true, false, ◌&&◌, List, [], ◌∷◌, ◌++◌, length, map, get_or, All, Some, sum, if◌then◌else◌, refl, sym, ◌∙◌, ap, inl, inr, arith}
+use Rattle.std.proofs.Common.{◌≡◌, ◌≢◌, ◌⊎◌, ℕ, ℤ, zero, suc, pos, ◌+◌, ◌+ℤ◌, ◌*ℤ◌, Bool, true, false, ◌&&◌, List, [], ◌∷◌, ◌++◌, length, map, take, get_or, All, Some, if◌then◌else◌, refl, sym, ◌∙◌, ap, subst, inl, inr, ⊎_elim, arith}
+use Rattle.std.proofs.Math.Seq.{take-append_seam}
+use Rattle.std.proofs.lemmas.Bool.{eq-eqb, ne_eqb, cases_eq}
 use Rattle.std.proofs.lemmas.Int.{ints}
-use Rattle.std.proofs.lemmas.List.{append_assoc, get_or_at, get_or_append_left, get_or-append-add, length-append, length_push}
+use Rattle.std.proofs.lemmas.List.{get_or-append-add}
 use Rattle.std.proofs.lemmas.List.Elements.{All-head, All-tail}
+use Rattle.std.specs.Bool.{MatchBool}
 use Rattle.std.specs.List.{list_all}
 use Rattle.std.specs.Option.{unwrap_or}
 use Rattle.std.specs.Ordering.{int_eq}
 use Rattle.fixpoint.specs.declared.plane.Pair.{Pair}
 use Rattle.variation_rules.specs.InferredDelta.{still}
-use Rattle.variation_rules.specs.PackedPoints.{count_from}
 use Rattle.variation_rules.specs.DrawnOutline.{Fills, FillsContours, movement, named_delta, phantom_movement}
 use Rattle.variation_rules.specs.Scalar.{scalar_of}
 use Rattle.variation_rules.specs.declared.region.Triple.{Triple}
 use Rattle.variation_rules.specs.declared.tuple.TupleVariation.{TupleVariation}
-use Rattle.variation_rules.proofs.DrawingLemmas.{all_named, contours_of_given}
+use Rattle.variation_rules.proofs.FillingLemmas.{contours_respect}
 use Rattle.region_support.proofs.AxisLemmas.{eq_tells}
+use Rattle.iup.specs.Arcs.{given_by}
+use Rattle.explicit_points.specs.ExplicitPoints.{IsGlyph, is_still}
+use Rattle.explicit_points.proofs.LawLemmas.{explicit_once, explicit_fills, explicit_phantoms}
 use Rattle.delta_solve.specs.Deltas.{dot, scalars_at}
 use Rattle.delta_solve.specs.GlyphModels.{delta_advance}
 use Rattle.delta_solve.specs.declared.model.GlyphTuple.{GlyphTuple}
-use Rattle.glyph_variations.specs.Variations.{all_deltas, is_still, is_still_tuple, moving, phantom_deltas, picked, variation_with}
+use Rattle.glyph_variations.specs.Variations.{AreMoving, IsVariation, VariationsOnce, all_deltas, is_still_tuple, phantom_deltas, picked}
 
--- ---- deltas of points that are all named
+-- ---- deltas of the points that a variation names
 
--- the deltas of all points, picked one by one
-picked_from : (front deltas : List Pair) → map (λ point. get_or (front ++ deltas) point still) (count_from (length deltas) (length front)) ≡ deltas
-picked_from front [] = refl
-picked_from front (delta ∷ deltas) =
-    let here : get_or (front ++ delta ∷ deltas) (length front) still ≡ delta = get_or_at front delta deltas still (length front) refl in
-    let regrouped : (front ++ (delta ∷ [])) ++ deltas ≡ front ++ delta ∷ deltas = append_assoc front (delta ∷ []) deltas in
-    let counted : length (front ++ (delta ∷ [])) ≡ length front + 1 = length_push front delta in
-    let rest = picked_from (front ++ (delta ∷ [])) deltas in
-    let moved : map (λ point. get_or (front ++ delta ∷ deltas) point still) (count_from (length deltas) (length front + 1)) ≡ deltas =
-    sym (λ i. map (λ point. get_or (regrouped i) point still) (count_from (length deltas) (counted i))) ∙ rest in
-    λ i. here i ∷ moved i
+-- it gives each of them its delta
+pub picked_by : (named : List ℕ) (deltas : List Pair) (k : ℕ) → named_delta named (picked deltas named) k ≡ given_by named deltas k
+picked_by [] deltas k = refl
+picked_by (x ∷ named) deltas k =
+    ⊎_elim
+    (λ (same : x ≡ k). rw (eq-eqb x k same) (ap (λ n. Some (get_or deltas n still)) same))
+    (λ (other : x ≡ k → ⊥). rw (ne_eqb x k other) (picked_by named deltas k))
+    (cases_eq x k)
 
-pub picked_all : (deltas : List Pair) → picked deltas (count_from (length deltas) 0) ≡ deltas
-picked_all deltas = picked_from [] deltas
-
--- so each point of a variation has its delta
-pub names_each : (lengths : List ℕ) (points : List Pair) (region : List Triple) (deltas : List Pair) (k : ℕ) → k < length deltas
-    → named_delta (variation_with lengths points region deltas).points (variation_with lengths points region deltas).deltas k ≡ Some (get_or deltas k still)
-names_each lengths points region deltas k inside =
-    ap (λ given. named_delta (count_from (length deltas) 0) given k) (picked_all deltas) ∙ all_named (length deltas) k deltas refl inside
+-- what it names is what the explicit points give
+pub variation_gives : (lengths : List ℕ) (points : List Pair) (region : List Triple) (deltas : List Pair) (own : TupleVariation) (k : ℕ) → IsVariation lengths points region deltas own → named_delta own.points own.deltas k ≡ given_by own.points deltas k
+variation_gives lengths points region deltas own k is = ap (λ picks. named_delta own.points picks k) is.deltas_are ∙ picked_by own.points deltas k
 
 -- ---- tuples in which nothing moves
 
@@ -83,76 +80,130 @@ abbrev pub moving_fills : List (List Triple) → List GlyphTuple → List (List 
 moving_fills (region ∷ regions) (tuple ∷ tuples) = if is_still_tuple tuple then moving_fills regions tuples else tuple.deltas ∷ moving_fills regions tuples
 moving_fills _ _ = []
 
-one_filled : (lengths : List ℕ) (points : List Pair) (region : List Triple) (tuple : GlyphTuple) → sum lengths ≡ length points → length tuple.deltas ≡ length points
-    → FillsContours lengths points (named_delta (variation_with lengths points region (all_deltas tuple)).points (variation_with lengths points region (all_deltas tuple)).deltas) tuple.deltas
-one_filled lengths points region tuple whole one_each =
-    contours_of_given lengths points (named_delta (variation_with lengths points region (all_deltas tuple)).points (variation_with lengths points region (all_deltas tuple)).deltas) tuple.deltas whole one_each
-    (λ i below.
-    names_each lengths points region (all_deltas tuple) i (omega (arith, length-append tuple.deltas (phantom_deltas tuple.advance)))
-    ∙ ap Some (get_or_append_left tuple.deltas (phantom_deltas tuple.advance) still i (omega arith)))
+-- a glyph with the deltas of a master
+abbrev pub IsGlyphOf : List ℕ → List Pair → GlyphTuple → Type 0
+IsGlyphOf lengths points tuple = IsGlyph lengths points (all_deltas tuple) × (length tuple.deltas ≡ length points)
 
-either_fills : (still_too : Bool) (lengths : List ℕ) (points : List Pair) (own : TupleVariation) (rest : List TupleVariation) (fill : List Pair) (fills : List (List Pair)) → FillsContours lengths points (named_delta own.points own.deltas) fill → Fills lengths points rest fills
-    → Fills lengths points (if still_too then rest else own ∷ rest) (if still_too then fills else fill ∷ fills)
-either_fills true lengths points own rest fill fills here later = later
-either_fills false lengths points own rest fill fills here later = (here, later)
+one_filled : (lengths : List ℕ) (points : List Pair) (region : List Triple) (tuple : GlyphTuple) (own : TupleVariation) → IsGlyphOf lengths points tuple → IsVariation lengths points region (all_deltas tuple) own
+    → FillsContours lengths points (named_delta own.points own.deltas) tuple.deltas
+one_filled lengths points region tuple own glyph is =
+    let outline : take (length points) (all_deltas tuple) ≡ tuple.deltas =
+    ap (λ (n : ℕ). take n (all_deltas tuple)) (sym glyph.1) ∙ take-append_seam tuple.deltas (phantom_deltas tuple.advance) in
+    let fills = explicit_fills lengths points (all_deltas tuple) own.points glyph.0 is.explicit in
+    contours_respect lengths points (given_by own.points (all_deltas tuple)) (named_delta own.points own.deltas) tuple.deltas
+    (λ k below. sym (variation_gives lengths points region (all_deltas tuple) own k is))
+    (subst (FillsContours lengths points (given_by own.points (all_deltas tuple))) outline fills)
 
-pub moving_filled : (lengths : List ℕ) (points : List Pair) (regions : List (List Triple)) (tuples : List GlyphTuple) → sum lengths ≡ length points → All (λ (tuple : GlyphTuple). length tuple.deltas ≡ length points) tuples
-    → Fills lengths points (moving lengths points regions tuples) (moving_fills regions tuples)
-moving_filled lengths points [] tuples whole one_each = tt
-moving_filled lengths points (region ∷ regions) [] whole one_each = tt
-moving_filled lengths points (region ∷ regions) (tuple ∷ tuples) whole one_each =
-    let P : GlyphTuple → Type 0 = λ tuple. length tuple.deltas ≡ length points in
-    either_fills (is_still_tuple tuple) lengths points (variation_with lengths points region (all_deltas tuple)) (moving lengths points regions tuples) tuple.deltas (moving_fills regions tuples)
-    (one_filled lengths points region tuple whole (All-head P tuple tuples one_each))
-    (moving_filled lengths points regions tuples whole (All-tail P tuple tuples one_each))
+either_fills : (still_too : Bool) (lengths : List ℕ) (points : List Pair) (region : List Triple) (tuple : GlyphTuple) (found : List TupleVariation) (fills : List (List Pair)) (Later : List TupleVariation → Type 0)
+    → IsGlyphOf lengths points tuple → ((more : List TupleVariation) → Later more → Fills lengths points more fills)
+    → MatchBool still_too (Later found) ((own : TupleVariation) × (more : List TupleVariation) × IsVariation lengths points region (all_deltas tuple) own × (found ≡ own ∷ more) × Later more)
+    → Fills lengths points found (if still_too then fills else tuple.deltas ∷ fills)
+either_fills true lengths points region tuple found fills Later glyph later moving = later found moving
+either_fills false lengths points region tuple found fills Later glyph later moving =
+    subst (λ variations. Fills lengths points variations (tuple.deltas ∷ fills)) (sym moving.3)
+    (one_filled lengths points region tuple moving.0 glyph moving.2, later moving.1 moving.4)
+
+pub moving_filled : (lengths : List ℕ) (points : List Pair) (regions : List (List Triple)) (tuples : List GlyphTuple) (found : List TupleVariation) → All (IsGlyphOf lengths points) tuples → AreMoving lengths points regions tuples found
+    → Fills lengths points found (moving_fills regions tuples)
+moving_filled lengths points [] tuples found glyphs moving = subst (λ variations. Fills lengths points variations []) (sym moving) tt
+moving_filled lengths points (region ∷ regions) [] found glyphs moving = subst (λ variations. Fills lengths points variations []) (sym moving) tt
+moving_filled lengths points (region ∷ regions) (tuple ∷ tuples) found glyphs moving =
+    either_fills (is_still_tuple tuple) lengths points region tuple found (moving_fills regions tuples) (AreMoving lengths points regions tuples)
+    (All-head (IsGlyphOf lengths points) tuple tuples glyphs)
+    (λ more later. moving_filled lengths points regions tuples more (All-tail (IsGlyphOf lengths points) tuple tuples glyphs) later)
+    moving
 
 -- ---- how far they move a point
 
-either_moves : (still_too : Bool) (part : Pair → ℤ) (at : List ℤ) (own : TupleVariation) (rest : List TupleVariation) (fill : List Pair) (fills : List (List Pair)) (point : ℕ) (sum : ℤ) → (still_too ≡ true → part (get_or fill point still) ≡ pos 0) → movement part at rest fills point ≡ sum
-    → movement part at (if still_too then rest else own ∷ rest) (if still_too then fills else fill ∷ fills) point ≡ (scalar_of 16 own.region at *ℤ part (get_or fill point still)) +ℤ sum
-either_moves true part at own rest fill fills point sum none later =
-    let nothing : scalar_of 16 own.region at *ℤ pos 0 ≡ pos 0 = omega (arith, ints) in
-    let none_moves : (scalar_of 16 own.region at *ℤ part (get_or fill point still)) +ℤ sum ≡ sum =
-    ap (λ z. (scalar_of 16 own.region at *ℤ z) +ℤ sum) (none refl) ∙ (ap (λ z. z +ℤ sum) nothing ∙ omega (arith, ints)) in
-    later ∙ sym none_moves
-either_moves false part at own rest fill fills point sum none later = ap (λ z. (scalar_of 16 own.region at *ℤ part (get_or fill point still)) +ℤ z) later
+-- a tuple that isn't there would add nothing
+none_added : (scalar number sum : ℤ) → number ≡ pos 0 → sum ≡ (scalar *ℤ number) +ℤ sum
+none_added scalar number sum none =
+    let nothing : scalar *ℤ pos 0 ≡ pos 0 = omega (arith, ints) in
+    sym (ap (λ z. (scalar *ℤ z) +ℤ sum) none ∙ (ap (λ z. z +ℤ sum) nothing ∙ omega (arith, ints)))
 
-pub moving_moves : (part : Pair → ℤ) (lengths : List ℕ) (points : List Pair) (regions : List (List Triple)) (tuples : List GlyphTuple) (at : List ℤ) (point : ℕ) → part still ≡ pos 0
-    → movement part at (moving lengths points regions tuples) (moving_fills regions tuples) point ≡ dot (scalars_at regions at) (map (λ (tuple : GlyphTuple). part (get_or tuple.deltas point still)) tuples)
-moving_moves part lengths points [] tuples at point none = refl
-moving_moves part lengths points (region ∷ regions) [] at point none = refl
-moving_moves part lengths points (region ∷ regions) (tuple ∷ tuples) at point none =
-    either_moves (is_still_tuple tuple) part at (variation_with lengths points region (all_deltas tuple)) (moving lengths points regions tuples) tuple.deltas (moving_fills regions tuples) point
+either_moves : (still_too : Bool) (part : Pair → ℤ) (at : List ℤ) (lengths : List ℕ) (points : List Pair) (region : List Triple) (tuple : GlyphTuple) (found : List TupleVariation) (fills : List (List Pair)) (Later : List TupleVariation → Type 0) (point : ℕ) (sum : ℤ)
+    → (still_too ≡ true → part (get_or tuple.deltas point still) ≡ pos 0) → ((more : List TupleVariation) → Later more → movement part at more fills point ≡ sum)
+    → MatchBool still_too (Later found) ((own : TupleVariation) × (more : List TupleVariation) × IsVariation lengths points region (all_deltas tuple) own × (found ≡ own ∷ more) × Later more)
+    → movement part at found (if still_too then fills else tuple.deltas ∷ fills) point ≡ (scalar_of 16 region at *ℤ part (get_or tuple.deltas point still)) +ℤ sum
+either_moves true part at lengths points region tuple found fills Later point sum none later moving =
+    later found moving ∙ none_added (scalar_of 16 region at) (part (get_or tuple.deltas point still)) sum (none refl)
+either_moves false part at lengths points region tuple found fills Later point sum none later moving =
+    ap (λ variations. movement part at variations (tuple.deltas ∷ fills) point) moving.3
+    ∙ (ap (λ own. (scalar_of 16 own at *ℤ part (get_or tuple.deltas point still)) +ℤ movement part at moving.1 fills point) moving.2.region_is
+    ∙ ap (λ z. (scalar_of 16 region at *ℤ part (get_or tuple.deltas point still)) +ℤ z) (later moving.1 moving.4))
+
+pub moving_moves : (part : Pair → ℤ) (lengths : List ℕ) (points : List Pair) (regions : List (List Triple)) (tuples : List GlyphTuple) (found : List TupleVariation) (at : List ℤ) (point : ℕ) → part still ≡ pos 0 → AreMoving lengths points regions tuples found
+    → movement part at found (moving_fills regions tuples) point ≡ dot (scalars_at regions at) (map (λ (tuple : GlyphTuple). part (get_or tuple.deltas point still)) tuples)
+moving_moves part lengths points [] tuples found at point none moving = ap (λ variations. movement part at variations [] point) moving
+moving_moves part lengths points (region ∷ regions) [] found at point none moving = ap (λ variations. movement part at variations [] point) moving
+moving_moves part lengths points (region ∷ regions) (tuple ∷ tuples) found at point none moving =
+    either_moves (is_still_tuple tuple) part at lengths points region tuple found (moving_fills regions tuples) (AreMoving lengths points regions tuples) point
     (dot (scalars_at regions at) (map (λ (tuple : GlyphTuple). part (get_or tuple.deltas point still)) tuples))
     (λ all. ap part (still_point tuple.deltas tuple.advance point all) ∙ none)
-    (moving_moves part lengths points regions tuples at point none)
+    (λ more later. moving_moves part lengths points regions tuples more at point none later)
+    moving
 
 -- ---- how far they move the advance
 
-either_phantom : (still_too : Bool) (at : List ℤ) (own : TupleVariation) (rest : List TupleVariation) (point : ℕ) (delta sum : ℤ) → (unwrap_or (named_delta own.points own.deltas point) still).x ≡ delta → (still_too ≡ true → delta ≡ pos 0) → phantom_movement at rest point ≡ sum
-    → phantom_movement at (if still_too then rest else own ∷ rest) point ≡ (scalar_of 16 own.region at *ℤ delta) +ℤ sum
-either_phantom true at own rest point delta sum here none later =
-    let nothing : scalar_of 16 own.region at *ℤ pos 0 ≡ pos 0 = omega (arith, ints) in
-    let none_moves : (scalar_of 16 own.region at *ℤ delta) +ℤ sum ≡ sum =
-    ap (λ z. (scalar_of 16 own.region at *ℤ z) +ℤ sum) (none refl) ∙ (ap (λ z. z +ℤ sum) nothing ∙ omega (arith, ints)) in
-    later ∙ sym none_moves
-either_phantom false at own rest point delta sum here none later = λ i. (scalar_of 16 own.region at *ℤ here i) +ℤ later i
+advance_named : (lengths : List ℕ) (points : List Pair) (region : List Triple) (tuple : GlyphTuple) (own : TupleVariation) → IsGlyphOf lengths points tuple → IsVariation lengths points region (all_deltas tuple) own
+    → (unwrap_or (named_delta own.points own.deltas (length points + 1)) still).x ≡ tuple.advance
+advance_named lengths points region tuple own glyph is =
+    let phantom = explicit_phantoms lengths points (all_deltas tuple) own.points (length points + 1) glyph.0 is.explicit (omega arith) (omega arith) in
+    ap (λ delta. (unwrap_or delta still).x) (variation_gives lengths points region (all_deltas tuple) own (length points + 1) is)
+    ∙ (ap (λ (pair : Pair). pair.x) phantom
+    ∙ (ap (λ (n : ℕ). (get_or (all_deltas tuple) (n + 1) still).x) (sym glyph.1) ∙ ap (λ (pair : Pair). pair.x) (phantom_at tuple.deltas tuple.advance)))
 
-advance_named : (lengths : List ℕ) (points : List Pair) (region : List Triple) (tuple : GlyphTuple) (outline : ℕ) → length tuple.deltas ≡ outline
-    → (unwrap_or (named_delta (variation_with lengths points region (all_deltas tuple)).points (variation_with lengths points region (all_deltas tuple)).deltas (outline + 1)) still).x ≡ tuple.advance
-advance_named lengths points region tuple outline count =
-    let here = names_each lengths points region (all_deltas tuple) (outline + 1) (omega (arith, length-append tuple.deltas (phantom_deltas tuple.advance))) in
-    ap (λ delta. (unwrap_or delta still).x) here
-    ∙ (ap (λ (n : ℕ). (get_or (all_deltas tuple) (n + 1) still).x) (sym count) ∙ ap (λ (pair : Pair). pair.x) (phantom_at tuple.deltas tuple.advance))
+either_phantom : (still_too : Bool) (at : List ℤ) (lengths : List ℕ) (points : List Pair) (region : List Triple) (tuple : GlyphTuple) (found : List TupleVariation) (Later : List TupleVariation → Type 0) (sum : ℤ)
+    → IsGlyphOf lengths points tuple → (still_too ≡ true → tuple.advance ≡ pos 0) → ((more : List TupleVariation) → Later more → phantom_movement at more (length points + 1) ≡ sum)
+    → MatchBool still_too (Later found) ((own : TupleVariation) × (more : List TupleVariation) × IsVariation lengths points region (all_deltas tuple) own × (found ≡ own ∷ more) × Later more)
+    → phantom_movement at found (length points + 1) ≡ (scalar_of 16 region at *ℤ tuple.advance) +ℤ sum
+either_phantom true at lengths points region tuple found Later sum glyph none later moving = later found moving ∙ none_added (scalar_of 16 region at) tuple.advance sum (none refl)
+either_phantom false at lengths points region tuple found Later sum glyph none later moving =
+    ap (λ variations. phantom_movement at variations (length points + 1)) moving.3
+    ∙ (ap (λ own. (scalar_of 16 own at *ℤ (unwrap_or (named_delta moving.0.points moving.0.deltas (length points + 1)) still).x) +ℤ phantom_movement at moving.1 (length points + 1)) moving.2.region_is
+    ∙ (ap (λ z. (scalar_of 16 region at *ℤ z) +ℤ phantom_movement at moving.1 (length points + 1)) (advance_named lengths points region tuple moving.0 glyph moving.2)
+    ∙ ap (λ z. (scalar_of 16 region at *ℤ tuple.advance) +ℤ z) (later moving.1 moving.4)))
 
-pub moving_advance : (lengths : List ℕ) (points : List Pair) (regions : List (List Triple)) (tuples : List GlyphTuple) (at : List ℤ) (outline : ℕ) → All (λ (tuple : GlyphTuple). length tuple.deltas ≡ outline) tuples
-    → phantom_movement at (moving lengths points regions tuples) (outline + 1) ≡ dot (scalars_at regions at) (map delta_advance tuples)
-moving_advance lengths points [] tuples at outline one_each = refl
-moving_advance lengths points (region ∷ regions) [] at outline one_each = refl
-moving_advance lengths points (region ∷ regions) (tuple ∷ tuples) at outline one_each =
-    let P : GlyphTuple → Type 0 = λ tuple. length tuple.deltas ≡ outline in
-    either_phantom (is_still_tuple tuple) at (variation_with lengths points region (all_deltas tuple)) (moving lengths points regions tuples) (outline + 1) tuple.advance
+pub moving_advance : (lengths : List ℕ) (points : List Pair) (regions : List (List Triple)) (tuples : List GlyphTuple) (found : List TupleVariation) (at : List ℤ) → All (IsGlyphOf lengths points) tuples → AreMoving lengths points regions tuples found
+    → phantom_movement at found (length points + 1) ≡ dot (scalars_at regions at) (map delta_advance tuples)
+moving_advance lengths points [] tuples found at glyphs moving = ap (λ variations. phantom_movement at variations (length points + 1)) moving
+moving_advance lengths points (region ∷ regions) [] found at glyphs moving = ap (λ variations. phantom_movement at variations (length points + 1)) moving
+moving_advance lengths points (region ∷ regions) (tuple ∷ tuples) found at glyphs moving =
+    either_phantom (is_still_tuple tuple) at lengths points region tuple found (AreMoving lengths points regions tuples)
     (dot (scalars_at regions at) (map delta_advance tuples))
-    (advance_named lengths points region tuple outline (All-head P tuple tuples one_each))
+    (All-head (IsGlyphOf lengths points) tuple tuples glyphs)
     (λ all. still_advance tuple.deltas tuple.advance all)
-    (moving_advance lengths points regions tuples at outline (All-tail P tuple tuples one_each))
+    (λ more later. moving_advance lengths points regions tuples more at (All-tail (IsGlyphOf lengths points) tuple tuples glyphs) later)
+    moving
+
+-- ---- there is one list of them
+
+one_variation : (lengths : List ℕ) (points : List Pair) (region : List Triple) (deltas : List Pair) (own other : TupleVariation) → IsVariation lengths points region deltas own → IsVariation lengths points region deltas other → own ≡ other
+one_variation lengths points region deltas own other is also =
+    let named : own.points ≡ other.points = explicit_once lengths points deltas own.points other.points is.explicit also.explicit in
+    let region_same : own.region ≡ other.region = is.region_is ∙ sym also.region_is in
+    let deltas_same : own.deltas ≡ other.deltas = is.deltas_are ∙ (ap (picked deltas) named ∙ sym also.deltas_are) in
+    λ i. record { region = region_same i; points = named i; deltas = deltas_same i }
+
+either_once : (still_too : Bool) (lengths : List ℕ) (points : List Pair) (region : List Triple) (deltas : List Pair) (found other : List TupleVariation) (Later : List TupleVariation → Type 0)
+    → ((more others : List TupleVariation) → Later more → Later others → more ≡ others)
+    → MatchBool still_too (Later found) ((own : TupleVariation) × (more : List TupleVariation) × IsVariation lengths points region deltas own × (found ≡ own ∷ more) × Later more)
+    → MatchBool still_too (Later other) ((own : TupleVariation) × (more : List TupleVariation) × IsVariation lengths points region deltas own × (other ≡ own ∷ more) × Later more)
+    → found ≡ other
+either_once true lengths points region deltas found other Later later one two = later found other one two
+either_once false lengths points region deltas found other Later later one two =
+    let first = one_variation lengths points region deltas one.0 two.0 one.2 two.2 in
+    let rest = later one.1 two.1 one.4 two.4 in
+    one.3 ∙ ((λ i. first i ∷ rest i) ∙ sym two.3)
+
+pub moving_once : (lengths : List ℕ) (points : List Pair) (regions : List (List Triple)) (tuples : List GlyphTuple) (found other : List TupleVariation) → AreMoving lengths points regions tuples found → AreMoving lengths points regions tuples other → found ≡ other
+moving_once lengths points [] tuples found other one two = one ∙ sym two
+moving_once lengths points (region ∷ regions) [] found other one two = one ∙ sym two
+moving_once lengths points (region ∷ regions) (tuple ∷ tuples) found other one two =
+    either_once (is_still_tuple tuple) lengths points region (all_deltas tuple) found other (AreMoving lengths points regions tuples)
+    (λ more others first second. moving_once lengths points regions tuples more others first second) one two
+
+pub variations_once : VariationsOnce
+variations_once lengths [] tuples found other one two = one ∙ sym two
+variations_once lengths (region ∷ regions) [] found other one two = one ∙ sym two
+variations_once lengths (region ∷ regions) (default ∷ tuples) found other one two = moving_once lengths default.deltas regions tuples found other one two

@@ -1,8 +1,9 @@
 -- What the tuple variations of a glyph draw: at every location what the model of its masters gives there, and at each
 -- master's location, rounded, that master's drawing.
-use Rattle.std.specs.Prelude.{◌≡◌, ℕ, ℤ, ◌<◌, List, [], length, map, slice_index_or}
+use Rattle.std.specs.Prelude.{◌≡◌, ℕ, ℤ, ◌<◌, List, [], length, map, All, slice_index_or}
 use Rattle.fixpoint.specs.Rounding.{round_up}
 use Rattle.fixpoint.specs.declared.plane.Pair.{Pair}
+use Rattle.glif.specs.Limits.{IsWithinLimits}
 use Rattle.glif.specs.declared.shape.Outline.{Outline}
 use Rattle.variation_rules.specs.DrawnOutline.{Fills, drawn, drawn_advance}
 use Rattle.variation_rules.specs.declared.region.Triple.{Triple}
@@ -10,10 +11,10 @@ use Rattle.variation_rules.specs.declared.tuple.TupleVariation.{TupleVariation}
 use Rattle.region_support.specs.MasterOrder.{AreMasters}
 use Rattle.region_support.specs.Regions.{regions_of}
 use Rattle.delta_solve.specs.Deltas.{deltas_of, model_value}
-use Rattle.delta_solve.specs.GlyphModels.{IsModelOf, default_of}
+use Rattle.delta_solve.specs.GlyphModels.{IsModelOf, IsTupleWithin, default_of}
 use Rattle.delta_solve.specs.Outlines.{advance_of, contour_lengths, points_of, x_of, y_of}
 use Rattle.delta_solve.specs.declared.model.GlyphModel.{GlyphModel}
-use Rattle.glyph_variations.specs.Variations.{variations_of}
+use Rattle.glyph_variations.specs.Variations.{AreVariations}
 
 -- the outline of the master of this number
 abbrev pub outline_at : List Outline → ℕ → Outline
@@ -47,6 +48,7 @@ pub record Draws (regions : List (List Triple)) (locations : List (List ℤ)) (o
 
 -- it holds of the model of any masters in their order
 abbrev pub ModelsAreDrawn : Type 0
-ModelsAreDrawn = (axes : ℕ) (locations : List (List ℤ)) (outlines : List Outline) (model : GlyphModel)
-    → AreMasters axes locations → IsModelOf (regions_of locations) locations outlines model
-    → Draws (regions_of locations) locations outlines (variations_of model.lengths (regions_of locations) model.tuples)
+ModelsAreDrawn = (axes : ℕ) (locations : List (List ℤ)) (outlines : List Outline) (model : GlyphModel) (found : List TupleVariation)
+    → AreMasters axes locations → All IsWithinLimits outlines → All IsTupleWithin model.tuples
+    → IsModelOf (regions_of locations) locations outlines model → AreVariations model.lengths (regions_of locations) model.tuples found
+    → Draws (regions_of locations) locations outlines found

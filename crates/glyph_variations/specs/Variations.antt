@@ -1,13 +1,13 @@
 -- The tuple variations of a glyph (OpenType, "gvar"): for each master behind the default its region and its deltas.
-use Rattle.std.specs.Prelude.{ℕ, ℤ, pos, ◌+◌, ◌*◌, Bool, ◌&&◌, List, [], ◌∷◌, ◌++◌, length, map, if◌then◌else◌, nat_lt, slice_index_or}
+use Rattle.std.specs.Prelude.{◌≡◌, ℕ, ℤ, pos, ◌+◌, ◌*◌, Bool, List, [], ◌∷◌, ◌++◌, length, map, nat_lt, slice_index_or}
+use Rattle.std.specs.Bool.{MatchBool}
 use Rattle.std.specs.List.{count_by, list_all}
-use Rattle.std.specs.Ordering.{int_eq}
 use Rattle.fixpoint.specs.declared.plane.Pair.{Pair}
 use Rattle.variation_rules.specs.InferredDelta.{still}
-use Rattle.variation_rules.specs.PackedPoints.{count_from}
 use Rattle.variation_rules.specs.declared.region.Triple.{Triple}
 use Rattle.variation_rules.specs.declared.tuple.TupleVariation.{TupleVariation}
 use Rattle.delta_solve.specs.declared.model.GlyphTuple.{GlyphTuple}
+use Rattle.explicit_points.specs.ExplicitPoints.{AreExplicit, is_still}
 
 -- the deltas of the four phantom points (OpenType, "glyf"), of which the second stands at the advance
 abbrev pub phantom_deltas : ℤ → List Pair
@@ -17,42 +17,38 @@ phantom_deltas advance = still ∷ record { x = advance; y = pos 0 } ∷ still �
 abbrev pub all_deltas : GlyphTuple → List Pair
 all_deltas tuple = tuple.deltas ++ phantom_deltas tuple.advance
 
--- The points that a tuple names, of a glyph with contours of so many points, which stand here in the default's
--- drawing, and with these deltas of all points: every one.
-abbrev pub chosen : List ℕ → List Pair → List Pair → List ℕ
-chosen lengths points deltas = count_from (length deltas) 0
-
 -- the deltas of these points
 abbrev pub picked : List Pair → List ℕ → List Pair
 picked deltas points = map (λ point. slice_index_or deltas point still) points
 
--- the tuple variation of a master with these deltas of all points
-abbrev pub variation_with : List ℕ → List Pair → List Triple → List Pair → TupleVariation
-variation_with lengths points region deltas = record {
-  region = region;
-  points = chosen lengths points deltas;
-  deltas = picked deltas (chosen lengths points deltas);
-}
+-- The tuple variation of a master, of a glyph with contours of so many points, which stand here in the default's
+-- drawing, and with these deltas of all points: it names the explicit points alone.
+pub record IsVariation (lengths : List ℕ) (points : List Pair) (region : List Triple) (deltas : List Pair) (own : TupleVariation) : Type 0 where
+  pub region_is : own.region ≡ region
+  pub explicit : AreExplicit lengths points deltas own.points
+  pub deltas_are : own.deltas ≡ picked deltas own.points
 
 -- nothing moves
-abbrev pub is_still : Pair → Bool
-is_still delta = int_eq delta.x (pos 0) && int_eq delta.y (pos 0)
-
 abbrev pub is_still_tuple : GlyphTuple → Bool
 is_still_tuple tuple = list_all is_still (all_deltas tuple)
 
 -- those of the masters that move something, in their order
-abbrev pub moving : List ℕ → List Pair → List (List Triple) → List GlyphTuple → List TupleVariation
-moving lengths points (region ∷ regions) (tuple ∷ tuples) =
-    if is_still_tuple tuple then moving lengths points regions tuples
-    else variation_with lengths points region (all_deltas tuple) ∷ moving lengths points regions tuples
-moving lengths points _ _ = []
+abbrev pub AreMoving : List ℕ → List Pair → List (List Triple) → List GlyphTuple → List TupleVariation → Type 0
+AreMoving lengths points (region ∷ regions) (tuple ∷ tuples) found =
+    MatchBool (is_still_tuple tuple) (AreMoving lengths points regions tuples found)
+    ((own : TupleVariation) × (more : List TupleVariation) × IsVariation lengths points region (all_deltas tuple) own × (found ≡ own ∷ more) × AreMoving lengths points regions tuples more)
+AreMoving lengths points _ _ found = found ≡ []
 
 -- The tuple variations of a glyph: contours of so many points, the regions of the masters in their order, and their
 -- tuples. The default's is the drawing that the others are drawn over.
-abbrev pub variations_of : List ℕ → List (List Triple) → List GlyphTuple → List TupleVariation
-variations_of lengths (region ∷ regions) (default ∷ tuples) = moving lengths default.deltas regions tuples
-variations_of lengths _ _ = []
+abbrev pub AreVariations : List ℕ → List (List Triple) → List GlyphTuple → List TupleVariation → Type 0
+AreVariations lengths (region ∷ regions) (default ∷ tuples) found = AreMoving lengths default.deltas regions tuples found
+AreVariations lengths _ _ found = found ≡ []
+
+-- a glyph has one list of them
+abbrev pub VariationsOnce : Type 0
+VariationsOnce = (lengths : List ℕ) (regions : List (List Triple)) (tuples : List GlyphTuple) (found other : List TupleVariation)
+    → AreVariations lengths regions tuples found → AreVariations lengths regions tuples other → found ≡ other
 
 -- how many of the points are the outline's, of which there are so many
 abbrev pub explicit_in : ℕ → List ℕ → ℕ

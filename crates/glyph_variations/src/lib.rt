@@ -1,11 +1,11 @@
 //! The tuple variations of a glyph, from its model: what they are, and that they draw the model.
 #![tactic(auto)]
 
-mod chosen;
+mod deltas;
 mod laws;
 #[cfg(test)]
 mod tests;
 mod tuples;
 
-pub use laws::models_are_drawn;
+pub use laws::{models_are_drawn, variations_once};
 pub use tuples::{GlyphVariations, variations};

@@ -1,7 +1,8 @@
-ghost use Rattle.std.specs.Prelude.{◌≡◌, ◌≤◌, IfOk, length};
+ghost use Rattle.std.specs.Prelude.{◌≡◌, ◌<◌, ◌≤◌, All, IfOk, length};
 ghost use Rattle.variation_rules.specs.FontUnits.{AreFWords};
 ghost use Rattle.delta_solve.specs.GlyphModels.{IsTupleWithin};
-ghost use Rattle.glyph_variations.specs.Conditions.{AreGlyphTuples};
+ghost use Rattle.delta_solve.specs.declared.model.GlyphTuple.{GlyphTuple};
+ghost use Rattle.glyph_variations.specs.Conditions.{AreGlyphTuples, point_count};
 
 use crate::tuples::{GlyphVariations, variations};
 use arrayvec::ArrayVec;
@@ -24,36 +25,41 @@ fn support(start: i32, peak: i32, end: i32) -> Support {
     support
 }
 
-// A delta of 16 bits.
-fn delta(at: (i32, i32)) -> Pair
+// Two numbers of 16 bits.
+fn pair(at: (i16, i16)) -> Pair
     ensures { AreFWords result }
 {
     Pair {
-        x: at.0.clamp(-32768, 32767),
-        y: at.1.clamp(-32768, 32767),
+        x: i32::from(at.0),
+        y: i32::from(at.1),
     }
 }
 
-type Line = (i32, (i32, i32), (i32, i32));
+type At = (i16, i16);
 
-// The tuple of a master: the advance's delta and those of two points.
+// The advance's delta and those of four points.
+type Line = (i16, At, At, At, At);
+
 fn tuple(alloc: Global, line: Line) -> Result<GlyphTuple, NoMemory>
-    ensures two { IfOk result (λ tuple. length tuple.deltas ≡ 2) }
+    ensures four { IfOk result (λ tuple. length tuple.deltas ≡ 4) }
     ensures within { IfOk result IsTupleWithin }
 {
-    let (advance, first, second) = line;
     let mut deltas = Vec::new(alloc);
-    deltas.push(delta(first))?;
-    deltas.push(delta(second))?;
+    deltas.push(pair(line.1))?;
+    deltas.push(pair(line.2))?;
+    deltas.push(pair(line.3))?;
+    deltas.push(pair(line.4))?;
     Ok(GlyphTuple {
         deltas: Seq::from_vec(deltas),
-        advance: advance.clamp(-32768, 32767),
+        advance: i32::from(line.0),
     })
 }
 
 fn tuples(alloc: Global, lines: &[Line]) -> Result<Seq<GlyphTuple>, NoMemory>
-    requires { length lines.now ≤ 128 }
-    ensures { IfOk result AreGlyphTuples }
+    requires some { 0 < length lines.now }
+    requires few { length lines.now ≤ 128 }
+    ensures are { IfOk result AreGlyphTuples }
+    ensures count { IfOk result (λ tuples. point_count tuples ≡ 4) }
 {
     let mut tuples = Vec::new(alloc);
     for line in lines {
@@ -62,66 +68,65 @@ fn tuples(alloc: Global, lines: &[Line]) -> Result<Seq<GlyphTuple>, NoMemory>
     Ok(Seq::from_vec(tuples))
 }
 
-// The variations of a glyph with one contour of two points.
+// The variations of a glyph with one contour of four points.
 fn found(
     alloc: Global,
     lines: &[Line],
     regions: &[(i32, i32, i32)],
 ) -> Result<GlyphVariations, NoMemory>
-    requires { length lines.now ≤ 128 }
+    requires some { 0 < length lines.now }
+    requires few { length lines.now ≤ 128 }
 {
     let mut supports = Vec::new(alloc);
     for (start, peak, end) in regions {
         supports.push(support(*start, *peak, *end))?;
     }
     let model = GlyphModel {
-        lengths: Seq::from_vec(Vec::from_slice(alloc, &[2])?),
-        on: Seq::from_vec(Vec::from_slice(alloc, &[true, true])?),
+        lengths: Seq::from_vec(Vec::from_slice(alloc, &[4])?),
+        on: Seq::from_vec(Vec::from_slice(alloc, &[true, true, true, true])?),
         tuples: tuples(alloc, lines)?,
     };
     variations(alloc, &model, &Seq::from_vec(supports))
 }
 
-// Whether a tuple has this region, names all six points, and moves them so.
-fn is(tuple: &Tuple, region: (i32, i32, i32), wanted: &[Pair]) -> bool {
+// Whether a tuple has this region, names these points, and moves them so.
+fn is(tuple: &Tuple, region: (i32, i32, i32), points: &[u16], deltas: &[Pair]) -> bool {
     let (start, peak, end) = region;
     tuple.support.as_slice() == support(start, peak, end).as_slice()
-        && tuple.points.as_slice() == [0, 1, 2, 3, 4, 5].as_slice()
-        && tuple.deltas.as_slice() == wanted
+        && tuple.points.as_slice() == points
+        && tuple.deltas.as_slice() == deltas
 }
 
-// The second master moves nothing, and the last one the advance alone.
+// A square. The second master moves its right side and the advance, the third nothing, the fourth the advance alone,
+// and the last all points alike.
 #[test]
-fn four_masters(rt: HostRuntime) {
-    let still = Pair { x: 0, y: 0 };
+fn square(rt: HostRuntime) {
+    let still = (0, 0);
     let lines = [
-        (500, (10, 20), (30, 40)),
-        (0, (0, 0), (0, 0)),
-        (12, (5, 0), (0, -7)),
-        (-1, (0, 0), (0, 0)),
+        (500, (0, 0), (100, 0), (100, 100), (0, 100)),
+        (50, still, (50, 0), (50, 0), still),
+        (0, still, still, still, still),
+        (-1, still, still, still, still),
+        (0, (7, -3), (7, -3), (7, -3), (7, -3)),
     ];
     let regions = [
         (0, 0, 0),
         (0, 4096, 16384),
         (4096, 16384, 16384),
         (-16384, -16384, 0),
+        (-8192, -4096, 0),
     ];
     let Ok(found) = found(rt.alloc(), &lines, &regions) else {
         assert!(rt; false, "no memory");
         return;
     };
-    assert_eq!(rt; (found.explicit, found.points), (4, 4));
+    assert_eq!(rt; (found.explicit, found.points), (3, 12));
     let tuples = found.tuples.as_slice();
-    assert_eq!(rt; tuples.len(), 2);
-    let moved = [
-        Pair { x: 5, y: 0 },
-        Pair { x: 0, y: -7 },
-        still,
-        Pair { x: 12, y: 0 },
-        still,
-        still,
-    ];
-    assert!(rt; is(&tuples[0], (4096, 16384, 16384), &moved));
-    let narrower = [still, still, still, Pair { x: -1, y: 0 }, still, still];
-    assert!(rt; is(&tuples[1], (-16384, -16384, 0), &narrower));
+    assert_eq!(rt; tuples.len(), 3);
+    let wider = [pair(still), pair((50, 0)), pair((50, 0))];
+    assert!(rt; is(&tuples[0], (0, 4096, 16384), &[0, 1, 5], &wider));
+    let narrower = [pair((-1, 0))];
+    assert!(rt; is(&tuples[1], (-16384, -16384, 0), &[5], &narrower));
+    let moved = [pair((7, -3))];
+    assert!(rt; is(&tuples[2], (-8192, -4096, 0), &[0], &moved));
 }

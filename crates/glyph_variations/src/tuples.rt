@@ -1,12 +1,13 @@
-ghost use Rattle.std.specs.Prelude.{◌≡◌, ℕ, ◌+◌, ◌≤◌, List, IfOk, length, map};
-ghost use Rattle.fixpoint.specs.declared.plane.Pair.{Pair};
+ghost use Rattle.std.specs.Prelude.{◌≡◌, ℕ, ◌+◌, IfOk, map};
 ghost use Rattle.gvar_table.specs.Tuples.{AreTuplesOf, variation_of};
 ghost use Rattle.region_support.specs.Places.{regions_in};
-ghost use Rattle.glyph_variations.specs.Conditions.{AreGlyphTuples, AreWritable, point_count};
-ghost use Rattle.glyph_variations.specs.Variations.{explicit_points, outline_points, variation_with, variations_of};
+ghost use Rattle.explicit_points.specs.ExplicitPoints.{IsGlyph};
+ghost use Rattle.glyph_variations.specs.Conditions.{AreWritable, IsVariable, default_points, point_count};
+ghost use Rattle.glyph_variations.specs.Variations.{AreVariations, IsVariation, explicit_points, outline_points};
 
-use crate::chosen::{all_deltas, are_still, chosen, explicit_in, picked};
+use crate::deltas::{all_deltas, are_still, explicit_in, picked};
 use delta_solve::{GlyphModel, GlyphTuple};
+use explicit_points::explicit_points;
 use fixpoint::Pair;
 use gvar_table::Tuple;
 use outside::{NoMemory, Seq};
@@ -24,22 +25,29 @@ pub struct GlyphVariations {
     pub points: u64,
 }
 
-// How many outline points there are: as many as the default has.
-fn outline_of(masters: &[GlyphTuple]) -> usize
-    ensures { result ≡ point_count masters.now }
+// The outline's points stand where the default has them.
+fn default_points(masters: &[GlyphTuple]) -> &[Pair]
+    ensures { result.now ≡ default_points masters.now }
 {
     match masters {
-        [default, ..] => default.deltas.len(),
-        [] => 0,
+        [default, ..] => default.deltas.as_slice(),
+        [] => &[],
     }
 }
 
-// A master's tuple variation, of a glyph with these deltas of all points.
-fn tuple_of(alloc: Global, support: &Support, deltas: &[Pair]) -> Result<Tuple, NoMemory>
-    requires { length deltas.now ≤ 4004 }
-    ensures { IfOk result (λ tuple. (lengths : List ℕ) (points : List Pair) → variation_of tuple ≡ variation_with lengths points support.now.items deltas.now) }
+// A master's tuple variation, of a glyph with contours of so many points, these points in the default's drawing, and
+// these deltas of all points.
+fn tuple_of(
+    alloc: Global,
+    lengths: &[u16],
+    points: &[Pair],
+    support: &Support,
+    deltas: &[Pair],
+) -> Result<Tuple, NoMemory>
+    requires { IsGlyph lengths.now points.now deltas.now }
+    ensures { IfOk result (λ tuple. IsVariation lengths.now points.now support.now.items deltas.now (variation_of tuple)) }
 {
-    let named = chosen(alloc, deltas)?;
+    let named = explicit_points(alloc, lengths, points, deltas)?;
     let deltas = picked(alloc, deltas, named.as_slice())?;
     Ok(Tuple {
         support: support.clone()?,
@@ -51,27 +59,28 @@ fn tuple_of(alloc: Global, support: &Support, deltas: &[Pair]) -> Result<Tuple, 
 // The tuple variations of masters with these regions.
 fn moving(
     alloc: Global,
+    lengths: &[u16],
     masters: &[GlyphTuple],
     supports: &[Support],
 ) -> Result<GlyphVariations, NoMemory>
-    requires { AreGlyphTuples masters.now }
-    ensures tuples { IfOk result (λ found. (lengths : List ℕ) → map variation_of found.tuples ≡ variations_of lengths (regions_in supports.now) masters.now) }
+    requires { IsVariable lengths.now masters.now }
+    ensures tuples { IfOk result (λ found. AreVariations lengths.now (regions_in supports.now) masters.now (map variation_of found.tuples)) }
     ensures explicit { IfOk result (λ found. found.explicit ≡ explicit_points (point_count masters.now) (map variation_of found.tuples)) }
     ensures points { IfOk result (λ found. found.points ≡ outline_points (point_count masters.now) (map variation_of found.tuples)) }
     ensures writable { IfOk result (λ found. (axes : ℕ) → AreWritable axes supports.now → AreTuplesOf axes (point_count masters.now + 4) found.tuples) }
 {
-    let outline = outline_of(masters);
+    let points = default_points(masters);
     let mut tuples = Vec::new(alloc);
     let mut explicit: u64 = 0;
     for master in 1..masters.len().min(supports.len()) {
         let deltas = all_deltas(alloc, &masters[master])?;
         if !are_still(&deltas) {
-            let tuple = tuple_of(alloc, &supports[master], &deltas)?;
-            explicit += explicit_in(outline, tuple.points.as_slice());
+            let tuple = tuple_of(alloc, lengths, points, &supports[master], &deltas)?;
+            explicit += explicit_in(points.len(), tuple.points.as_slice());
             tuples.push(tuple)?;
         }
     }
-    let points = outline as u64 * tuples.len() as u64;
+    let points = points.len() as u64 * tuples.len() as u64;
     Ok(GlyphVariations {
         tuples: Seq::from_vec(tuples),
         explicit,
@@ -80,18 +89,24 @@ fn moving(
 }
 
 /// The tuple variations that draw the model of a glyph (OpenType, "gvar"), where the regions are those of its masters in
-/// their order: a tuple for each master behind the default whose deltas aren't all zero, which names every point of the
-/// glyph and the four phantom points behind them. The model has at most 128 masters and 4,000 points.
+/// their order: a tuple for each master behind the default whose deltas aren't all zero. It names on each contour the
+/// least set of points from which readers infer all deltas, and the phantom points that move. The model has at most 128
+/// masters, contours of 1 to 1,024 points, and at most 4,000 points in all.
 pub fn variations(
     alloc: Global,
     model: &GlyphModel,
     supports: &Seq<Support>,
 ) -> Result<GlyphVariations, NoMemory>
-    requires { AreGlyphTuples model.now.tuples }
-    ensures tuples { IfOk result (λ found. map variation_of found.tuples ≡ variations_of model.now.lengths (regions_in supports.now) model.now.tuples) }
+    requires { IsVariable model.now.lengths model.now.tuples }
+    ensures tuples { IfOk result (λ found. AreVariations model.now.lengths (regions_in supports.now) model.now.tuples (map variation_of found.tuples)) }
     ensures explicit { IfOk result (λ found. found.explicit ≡ explicit_points (point_count model.now.tuples) (map variation_of found.tuples)) }
     ensures points { IfOk result (λ found. found.points ≡ outline_points (point_count model.now.tuples) (map variation_of found.tuples)) }
     ensures writable { IfOk result (λ found. (axes : ℕ) → AreWritable axes supports.now → AreTuplesOf axes (point_count model.now.tuples + 4) found.tuples) }
 {
-    moving(alloc, model.tuples.as_slice(), supports.as_slice())
+    moving(
+        alloc,
+        model.lengths.as_slice(),
+        model.tuples.as_slice(),
+        supports.as_slice(),
+    )
 }

@@ -6,6 +6,6 @@ use Rattle.glyph_variations.proofs.tests.tuples.Given as goal
 abbrev pub invariant-loop-line : goal.invariant-loop-line
 invariant-loop-line l = record {
   count : length l.tuples.items ≡ l.line-index;
-  two : All (λ (tuple : GlyphTuple). length tuple.deltas ≡ 2) l.tuples.items;
+  four : All (λ (tuple : GlyphTuple). length tuple.deltas ≡ 4) l.tuples.items;
   within : All IsTupleWithin l.tuples.items;
 }

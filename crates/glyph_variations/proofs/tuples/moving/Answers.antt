@@ -1,32 +1,38 @@
-use Rattle.std.proofs.Common.{◌≡◌, ℕ, ◌+◌, ◌<◌, ◌≤◌, min, ◌++◌, [], ◌∷◌, List, true, false, All, length, map, get_or, refl, sym, ◌∙◌, ap, subst, arith}
+use Rattle.std.proofs.Common.{◌≡◌, ◌+◌, ◌<◌, ◌≤◌, min, ◌++◌, [], ◌∷◌, true, false, All, length, map, get_or, refl, sym, ◌∙◌, ap, subst, arith}
 use Rattle.std.proofs.lemmas.List.{get_or_default, length_push, map_push}
 use Rattle.std.proofs.lemmas.List.Elements.{All-push}
 use Rattle.arrayvec.specs.ArrayVec.{ArrayVec}
-use Rattle.fixpoint.specs.declared.plane.Pair.{Pair}
 use Rattle.variation_rules.specs.declared.region.Triple.{Triple}
 use Rattle.gvar_table.specs.Tuples.{IsTupleOf, variation_of}
-use Rattle.delta_solve.specs.GlyphModels.{IsTupleWithin}
-use Rattle.glyph_variations.specs.Conditions.{point_count}
-use Rattle.glyph_variations.specs.Variations.{all_deltas, explicit_in, is_still_tuple, variation_with}
-use Rattle.glyph_variations.proofs.LoopLemmas.{all_found, can_be_written, default_points, explicit_more, none_so_far, one_found, passed_over, points_named}
+use Rattle.glyph_variations.specs.Variations.{IsVariation, all_deltas, explicit_in, is_still_tuple}
+use Rattle.glyph_variations.proofs.GlyphLemmas.{master_glyph}
+use Rattle.glyph_variations.proofs.LoopLemmas.{all_found, can_be_written, explicit_more, none_so_far, one_found, passed_over, points_named}
 use Rattle.glyph_variations.proofs.tuples.moving.Goals as goal
 use Rattle.glyph_variations.proofs.tuples.moving.Goals.{then-not-are_still+in_ok-tuple+in_ok-push, else-not-are_still}
+
+pub tuple_of-requires : goal.tuple_of-requires
+tuple_of-requires c =
+    let masters = c.args.masters.now in
+    let master = c.index-masters-master.result in
+    let k = c.loop-master.master in
+    let glyph = master_glyph c.args.lengths.now masters k master c.requires (omega arith) c.index-masters-master.is in
+    rw (c.default_points-points.ensures, c.deref-then-not-are_still.ensures.value, c.in_ok-deltas.ensures) glyph.0
 
 pub explicit_in-explicit-requires : goal.explicit_in-explicit-requires
 explicit_in-explicit-requires c =
     let masters = c.args.masters.now in
     let master = c.index-masters-master.result in
     let k = c.loop-master.master in
-    let inside : k < length masters = omega arith in
-    let alike : length master.deltas ≡ point_count masters = rw (← c.index-masters-master.is) at (c.requires.alike k master inside) in
-    let own = rw (c.deref-then-not-are_still.ensures.value, c.in_ok-deltas.ensures) at (c.in_ok-tuple.ensures [] []) in
-    let named = points_named (point_count masters) c.index-supports-master.result.items master c.in_ok-tuple.tuple alike own in
-    omega (arith, ap length c.as_slice.ensures, named, c.requires.few_points)
+    let points = c.default_points-points.result.now in
+    let glyph = rw (← c.default_points-points.ensures) at (master_glyph c.args.lengths.now masters k master c.requires (omega arith) c.index-masters-master.is) in
+    let own = rw (c.deref-then-not-are_still.ensures.value, c.in_ok-deltas.ensures) at c.in_ok-tuple.ensures in
+    let named = points_named c.args.lengths.now points c.index-supports-master.result.items master (variation_of c.in_ok-tuple.tuple) glyph own in
+    omega (arith, ap length c.as_slice.ensures, named, c.requires.tuples_are.few_points, ap length c.default_points-points.ensures)
 
 pub loop-master-init : goal.loop-master-init
 loop-master-init c =
     rw c.new-tuples.ensures.items (record {
-      so_far = λ lengths. sym (none_so_far lengths c.args.supports.now c.args.masters.now);
+      so_far = none_so_far c.args.lengths.now c.args.supports.now c.args.masters.now;
       few = omega arith;
       last = omega arith;
       explicit = refl;
@@ -36,35 +42,34 @@ loop-master-init c =
 
 pub loop-master-preserved : goal.loop-master-preserved
 loop-master-preserved c =
+    let lengths = c.args.lengths.now in
     let masters = c.args.masters.now in
     let supports = c.args.supports.now in
     let master = c.index-masters-master.result in
     let k = c.loop-master.master in
     let before = c.loop-master.tuples.items in
-    let outline = c.outline_of-outline.result in
+    let points = c.default_points-points.result.now in
     let inside : k < length masters = omega arith in
     let also : k < length supports = omega arith in
-    let last : k + 1 ≤ 128 = omega (arith, c.requires.few) in
-    let alike : length master.deltas ≡ outline = rw (← c.index-masters-master.is) at (c.requires.alike k master inside) ∙ sym c.outline_of-outline.ensures in
-    let within : IsTupleWithin master = rw (← c.index-masters-master.is) at (c.requires.within k master inside) in
+    let last : k + 1 ≤ 128 = omega (arith, c.requires.tuples_are.few) in
+    let glyph = rw (← c.default_points-points.ensures) at (master_glyph lengths masters k master c.requires inside c.index-masters-master.is) in
     let still : c.are_still.result ≡ is_still_tuple master = rw (c.deref.ensures.value, c.in_ok-deltas.ensures) at c.are_still.ensures in
     elim c.if-not-are_still.branch [
       | then-not-are_still+in_ok-tuple+in_ok-push w ↦ (
           let support = w.index-supports-master.result in
           let tuple = w.in_ok-tuple.tuple in
-          let own : (lengths : List ℕ) (points : List Pair) → variation_of tuple ≡ variation_with lengths points support.items (all_deltas master) =
-          λ lengths points. rw (w.deref-then-not-are_still.ensures.value, c.in_ok-deltas.ensures) at (w.in_ok-tuple.ensures lengths points) in
+          let own : IsVariation lengths points support.items (all_deltas master) (variation_of tuple) = rw (w.deref-then-not-are_still.ensures.value, c.in_ok-deltas.ensures) at w.in_ok-tuple.ensures in
           let moves : is_still_tuple master ≡ false = sym still ∙ w.if-not-are_still.true in
           let items : c.if-not-are_still.tuples.items ≡ before ++ tuple ∷ [] = rw w.tuples-is w.in_ok-push.ensures.items in
-          let named = points_named outline support.items master tuple alike (own [] []) in
-          let count : w.explicit_in-explicit.result ≡ explicit_in outline tuple.points = w.explicit_in-explicit.ensures.value ∙ ap (explicit_in outline) w.as_slice.ensures in
+          let named = points_named lengths points support.items master (variation_of tuple) glyph own in
+          let count : w.explicit_in-explicit.result ≡ explicit_in (length points) tuple.points = w.explicit_in-explicit.ensures.value ∙ ap (explicit_in (length points)) w.as_slice.ensures in
           rw items (record {
-            so_far = λ lengths. rw (map_push variation_of before tuple) (one_found lengths (default_points masters) supports masters k support master (variation_of tuple) (map variation_of before) _ also inside w.index-supports-master.is c.index-masters-master.is moves (own lengths (default_points masters)) (c.loop-master.invariant.so_far lengths));
+            so_far = rw (map_push variation_of before tuple) (one_found lengths supports masters k support master (variation_of tuple) (map variation_of before) also inside w.index-supports-master.is c.index-masters-master.is moves (rw c.default_points-points.ensures at own) c.loop-master.invariant.so_far);
             few = omega (arith, length_push before tuple, c.loop-master.invariant.few);
             last = last;
-            explicit = rw (map_push variation_of before tuple) (w.explicit-is ∙ ((λ i. c.loop-master.invariant.explicit i + count i) ∙ sym (explicit_more outline (map variation_of before) (variation_of tuple))));
-            most = omega (arith, w.explicit-is, c.loop-master.invariant.most, w.explicit_in-explicit.ensures.most, ap length w.as_slice.ensures, named, c.requires.few_points, c.outline_of-outline.ensures);
-            writable = λ axes writable. All-push (IsTupleOf axes (outline + 4)) before tuple (c.loop-master.invariant.writable axes writable) (can_be_written axes outline supports k support master tuple writable also w.index-supports-master.is alike within (own [] []));
+            explicit = rw (map_push variation_of before tuple) (w.explicit-is ∙ ((λ i. c.loop-master.invariant.explicit i + count i) ∙ sym (explicit_more (length points) (map variation_of before) (variation_of tuple))));
+            most = omega (arith, w.explicit-is, c.loop-master.invariant.most, w.explicit_in-explicit.ensures.most, ap length w.as_slice.ensures, named, c.requires.tuples_are.few_points, ap length c.default_points-points.ensures);
+            writable = λ axes writable. All-push (IsTupleOf axes (length points + 4)) before tuple (c.loop-master.invariant.writable axes writable) (can_be_written axes lengths points supports k support master tuple writable also w.index-supports-master.is glyph own moves);
           }))
       | else-not-are_still w ↦ (
           let none : ArrayVec Triple = record { items = [] } in
@@ -72,7 +77,7 @@ loop-master-preserved c =
           let support_is : support ≡ get_or supports k support = get_or_default supports k none support also in
           let still_is : is_still_tuple master ≡ true = sym still ∙ w.if-not-are_still.false in
           rw w.tuples-is (record {
-            so_far = λ lengths. passed_over lengths (default_points masters) supports masters k support master (map variation_of before) _ also inside support_is c.index-masters-master.is still_is (c.loop-master.invariant.so_far lengths);
+            so_far = passed_over lengths supports masters k support master (map variation_of before) also inside support_is c.index-masters-master.is still_is c.loop-master.invariant.so_far;
             few = omega (arith, c.loop-master.invariant.few);
             last = last;
             explicit = w.explicit-is ∙ c.loop-master.invariant.explicit;
@@ -86,7 +91,7 @@ returns-clause-tuples c =
     let masters = c.args.masters.now in
     let supports = c.args.supports.now in
     let ended : min (length masters) (length supports) ≤ c.loop-master.master = omega arith in
-    rw c.from_vec.ensures (λ lengths. all_found lengths supports masters c.loop-master.master (map variation_of c.loop-master.tuples.items) ended (c.loop-master.invariant.so_far lengths))
+    rw c.from_vec.ensures (all_found c.args.lengths.now supports masters c.loop-master.master (map variation_of c.loop-master.tuples.items) ended c.loop-master.invariant.so_far)
 
 pub returns-clause-writable : goal.returns-clause-writable
 returns-clause-writable c =
@@ -95,7 +100,7 @@ returns-clause-writable c =
       some_axes = writable.some_axes;
       few_axes = writable.few_axes;
       phantom_points = omega arith;
-      few_points = omega (arith, c.requires.few_points);
+      few_points = omega (arith, c.requires.tuples_are.few_points);
       few = omega (arith, c.loop-master.invariant.few, c.loop-master.invariant.last);
-      each = subst (λ outline. All (IsTupleOf axes (outline + 4)) tuples) c.outline_of-outline.ensures (c.loop-master.invariant.writable axes writable);
+      each = subst (λ points. All (IsTupleOf axes (length points + 4)) tuples) c.default_points-points.ensures (c.loop-master.invariant.writable axes writable);
     })

@@ -1,4 +1,4 @@
-use Rattle.std.proofs.Common.{◌≡◌, ℕ, ◌+◌, ◌*◌, ◌≤◌, List, All, length, map}
+use Rattle.std.proofs.Common.{◌≡◌, ℕ, ◌+◌, ◌*◌, ◌≤◌, All, length, map}
 use Rattle.gvar_table.specs.Tuples.{IsTupleOf, variation_of}
 use Rattle.glyph_variations.specs.Conditions.{AreWritable}
 use Rattle.glyph_variations.specs.Variations.{explicit_points}
@@ -8,10 +8,10 @@ use Rattle.glyph_variations.proofs.tuples.moving.Given as goal
 -- the masters that are left complete the tuples
 abbrev pub invariant-loop-master : goal.invariant-loop-master
 invariant-loop-master l = record {
-  so_far : (lengths : List ℕ) → IsSoFar lengths l.supports l.masters l.master (map variation_of l.tuples.items);
+  so_far : IsSoFar l.lengths l.supports l.masters l.master (map variation_of l.tuples.items);
   few : length l.tuples.items + 1 ≤ l.master;
   last : l.master ≤ 128;
-  explicit : l.explicit ≡ explicit_points l.outline (map variation_of l.tuples.items);
+  explicit : l.explicit ≡ explicit_points (length l.points) (map variation_of l.tuples.items);
   most : l.explicit ≤ 4004 * l.master;
-  writable : (axes : ℕ) → AreWritable axes l.supports → All (IsTupleOf axes (l.outline + 4)) l.tuples.items;
+  writable : (axes : ℕ) → AreWritable axes l.supports → All (IsTupleOf axes (length l.points + 4)) l.tuples.items;
 }

@@ -1,7 +1,7 @@
-ghost use Rattle.std.specs.Prelude.{◌≡◌, ◌≤◌, ℕ, List, IfOk, length};
-ghost use Rattle.fixpoint.specs.declared.plane.Pair.{Pair};
+ghost use Rattle.std.specs.Prelude.{◌≡◌, ◌≤◌, IfOk, length};
 ghost use Rattle.std.specs.List.{list_all};
-ghost use Rattle.glyph_variations.specs.Variations.{all_deltas, chosen, explicit_in, is_still, picked};
+ghost use Rattle.explicit_points.specs.ExplicitPoints.{is_still};
+ghost use Rattle.glyph_variations.specs.Variations.{all_deltas, explicit_in, picked};
 
 use delta_solve::GlyphTuple;
 use fixpoint::Pair;
@@ -30,18 +30,6 @@ pub(crate) fn are_still(deltas: &[Pair]) -> bool
     ensures { result ≡ list_all is_still deltas.now }
 {
     deltas.iter().all(|delta| delta.x == 0 && delta.y == 0)
-}
-
-/// The points that a tuple with these deltas of all points names: every one.
-pub(crate) fn chosen(alloc: Global, deltas: &[Pair]) -> Result<Seq<u16>, NoMemory>
-    requires { length deltas.now ≤ 4004 }
-    ensures { IfOk result (λ named. (lengths : List ℕ) (points : List Pair) → named ≡ chosen lengths points deltas.now) }
-{
-    let mut named = Vec::new(alloc);
-    for point in 0..deltas.len() {
-        named.push(point as u16)?;
-    }
-    Ok(Seq::from_vec(named))
 }
 
 /// The deltas of these points.
