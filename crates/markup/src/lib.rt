@@ -1,13 +1,17 @@
-// A library with one function.
+//! Source texts of XML 1.0 without CDATA sections, entities of their own and an internal document type:
+//! the tree of a text, or its one fault.
 #![tactic(auto)]
 
-ghost use Rattle.std.specs.Prelude.{◌≡◌};
-ghost use Rattle.markup.specs.Echo.{echo_of};
+mod attributes;
+mod bytes;
+mod content;
+mod element;
+mod items;
+mod markup;
+mod names;
+mod searches;
+mod reader;
+mod state;
 
-// The `ensures` clause is the contract: what `echo` returns is `echo_of` of its argument, a definition
-// in `specs/Echo.antt`, which a caller's clause can cite too.
-pub fn echo(x: usize) -> usize
-    ensures { result ≡ echo_of x }
-{
-    x
-}
+pub use element::Element;
+pub use reader::read;

@@ -1,1 +1,10 @@
-mod FaultLaw
+pub mod Attributes
+pub mod Contents
+pub mod FaultLaw
+pub mod Fuel
+pub mod Numbers
+pub mod Runs
+pub mod Searches
+pub mod Shorter
+pub mod Steps
+pub mod Utf8

@@ -63,7 +63,7 @@ after_run class (b ∷ bytes) = if class b then after_run class bytes else b ∷
 abbrev pub begins : List ℕ → List ℕ → Bool
 begins [] bytes = true
 begins (m ∷ mark) [] = false
-begins (m ∷ mark) (b ∷ bytes) = (b == m) && begins mark bytes
+begins (m ∷ mark) (b ∷ bytes) = (m == b) && begins mark bytes
 
 -- the first place from which on the bytes pass
 abbrev pub first_place : (List ℕ → Bool) → List ℕ → Option ℕ

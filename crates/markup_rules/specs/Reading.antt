@@ -18,11 +18,19 @@ abbrev pub Agrees : {X Y : Type 0} → (X → Y) → Option X → Option Y → T
 Agrees view (Some x) reading = reading ≡ Some (view x)
 Agrees view None reading = reading ≡ None
 
+-- one more value in front of those that were found
+abbrev pub with_first : {A : Type 0} → A → Option (List A × List ℕ) → Option (List A × List ℕ)
+with_first x None = None
+with_first x (Some more) = Some (x ∷ more.0, more.1)
+
+abbrev pub no_more : {A : Type 0} → List ℕ → Option (List A × List ℕ)
+no_more bytes = Some ([], bytes)
+
 -- items one after another up to an end, and what stands there; fuel: at most so many
 abbrev pub many_to : {A : Type 0} → (List ℕ → Bool) → (List ℕ → Option (A × List ℕ)) → ℕ → List ℕ → Option (List A × List ℕ)
 many_to ends item zero bytes = None
 many_to ends item (suc n) bytes =
-    if ends bytes then Some ([], bytes) else (item bytes >>= λ x. many_to ends item n x.1 >>= λ more. Some (x.0 ∷ more.0, more.1))
+    if ends bytes then no_more bytes else (item bytes >>= λ x. with_first x.0 (many_to ends item n x.1))
 
 -- each takes a byte at least, so that there are no more than bytes
 unfoldable pub many : {A : Type 0} → (List ℕ → Bool) → (List ℕ → Option (A × List ℕ)) → List ℕ → Option (List A × List ℕ)
@@ -36,8 +44,11 @@ name_at bytes = if starts_name bytes && is_utf8 (run_at is_name_byte bytes) then
 -- ---- references
 
 -- the character of a number, if it may stand in a source text
+unfoldable pub allowed : ℕ → Option ℕ
+allowed n = if is_allowed n then Some n else None
+
 unfoldable pub numbered : ℕ → (ℕ → Bool) → List ℕ → Option ℕ
-numbered radix class digits = if nat_lt 0 (length digits) && (list_all class digits && is_allowed (digits_value radix digits)) then Some (digits_value radix digits) else None
+numbered radix class digits = if nat_lt 0 (length digits) && list_all class digits then allowed (digits_value radix digits) else None
 
 -- of what stands behind #; 120 is the x
 unfoldable pub number_of : List ℕ → Option ℕ
@@ -105,13 +116,32 @@ value_at bytes = do
   text ← content_of value.0
   Some (text, value.1)
 
-unfoldable pub attribute_at : List ℕ → Option ((List ℕ × List ℕ) × List ℕ)
-attribute_at bytes = do
+-- a name with its equals sign
+unfoldable pub label_at : List ℕ → Option (List ℕ × List ℕ)
+label_at bytes = do
   rest ← blank_at bytes
   name ← name_at rest
   rest ← equals_at (after_run is_blank name.1)
-  value ← value_at (after_run is_blank rest)
-  Some ((name.0, value.0), value.1)
+  Some (name.0, after_run is_blank rest)
+
+unfoldable pub attribute_at : List ℕ → Option ((List ℕ × List ℕ) × List ℕ)
+attribute_at bytes = do
+  label ← label_at bytes
+  value ← value_at label.1
+  Some ((label.0, value.0), value.1)
+
+abbrev pub is_slash : List ℕ → Bool
+is_slash bytes = bytes_eq bytes (codes "/")
+
+-- behind the attributes of a tag: white space, and / where the element is empty
+abbrev pub is_tag_end : List ℕ → Bool
+is_tag_end bytes = is_nil (after_run is_blank bytes) || is_slash (after_run is_blank bytes)
+
+-- the attributes of a tag, of those with one name the first, and what ends the tag
+unfoldable pub attributes_at : List ℕ → Option (List (List ℕ × List ℕ) × List ℕ)
+attributes_at bytes = do
+  attributes ← many is_tag_end attribute_at bytes
+  Some (firsts [] attributes.0, attributes.1)
 
 -- ---- items
 
@@ -205,21 +235,14 @@ pub data Markup : Type 0 where
   content : (blank : Bool) (text : List ℕ) → Markup
   bad : Markup
 
-abbrev pub is_slash : List ℕ → Bool
-is_slash bytes = bytes_eq bytes (codes "/")
-
--- behind the attributes of a tag: white space, and / where the element is empty
-abbrev pub is_tag_end : List ℕ → Bool
-is_tag_end bytes = is_nil (after_run is_blank bytes) || is_slash (after_run is_blank bytes)
-
 abbrev pub opened : Opening → List ℕ → Markup
 opened opening rest = if is_nil (after_run is_blank rest) then start opening else empty opening
 
 unfoldable pub start_tag : List ℕ → Option Markup
 start_tag body = do
   name ← name_at body
-  attributes ← many is_tag_end attribute_at name.1
-  Some (opened (record { name = name.0; attributes = firsts [] attributes.0 }) attributes.1)
+  attributes ← attributes_at name.1
+  Some (opened (record { name = name.0; attributes = attributes.0 }) attributes.1)
 
 unfoldable pub end_tag : List ℕ → Option Markup
 end_tag body = do

@@ -1,5 +1,6 @@
 -- The tree of a source text: what elements are, without how code keeps them.
-use Rattle.std.specs.Prelude.{ℕ, List, [], ◌∷◌}
+use Rattle.std.specs.Prelude.{ℕ, List, [], ◌∷◌, Option, Some, None, if◌then◌else◌}
+use Rattle.std.specs.Str.{bytes_eq}
 
 -- an element: its name, its attributes as names with values, its children, its own text, and the place of
 -- its first byte in the file
@@ -23,6 +24,14 @@ name_of (node name attributes children text at) = name
 
 abbrev pub attributes_of : Tree → List (List ℕ × List ℕ)
 attributes_of (node name attributes children text at) = attributes
+
+-- the value of an attribute
+abbrev pub lookup : List ℕ → List (List ℕ × List ℕ) → Option (List ℕ)
+lookup name [] = None
+lookup name (a ∷ attributes) = if bytes_eq a.0 name then Some a.1 else lookup name attributes
+
+abbrev pub attribute_of : List ℕ → Tree → Option (List ℕ)
+attribute_of name tree = lookup name (attributes_of tree)
 
 abbrev pub children_of : Tree → List Tree
 children_of (node name attributes children text at) = list_of children

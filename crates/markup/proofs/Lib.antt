@@ -1,0 +1,3 @@
+pub mod ByteSearch
+pub mod Loops
+pub mod PlainLemmas
