@@ -15,3 +15,6 @@ mod state;
 
 pub use element::Element;
 pub use reader::read;
+
+#[cfg(test)]
+mod tests;
