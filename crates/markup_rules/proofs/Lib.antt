@@ -1,9 +1,12 @@
+mod Asides
 pub mod Attributes
+mod Complete
 pub mod Contents
 mod Cuts
 pub mod FaultLaw
 mod Fronts
 pub mod Fuel
+mod Lengths
 pub mod Numbers
 pub mod Runs
 pub mod Searches

@@ -22,7 +22,7 @@ unfolding rest_from items_of
 rest_done total state [] e = refl
 rest_done total state (b ∷ bytes) e = absurd cc
 
-rest_next : (total : ℕ) (state : State) (b : ℕ) (bytes : List ℕ) → rest_from total state (b ∷ bytes) ≡ (step total (entry_at (b ∷ bytes)) state >>= λ next. rest_from total next (item_at (b ∷ bytes)).1)
+pub rest_next : (total : ℕ) (state : State) (b : ℕ) (bytes : List ℕ) → rest_from total state (b ∷ bytes) ≡ (step total (entry_at (b ∷ bytes)) state >>= λ next. rest_from total next (item_at (b ∷ bytes)).1)
 unfolding rest_from
 rest_next total state b bytes = ap (run total state) (items_next b bytes)
 
