@@ -127,6 +127,7 @@ pub content_markup : (c : Content) → IsContent c → markup_of (data_between (
 unfolding markup_of data_markup
 content_markup c is = rw (content_again c is) refl
 
--- blanks are content, and mean themselves
-blank_plain : (b : ℕ) → is_blank b ≡ true → is_plain b ≡ true
-blank_plain b blank = grind (arith, nat_tests)
+-- data of which the content is known, on both sides
+pub data_end_markup : (bytes text : List ℕ) → content_of bytes ≡ Some text → (markup_of (data_between bytes) ≡ content (list_all is_blank bytes) text) × (markup_of (data_to_end bytes) ≡ content (list_all is_blank bytes) text)
+unfolding markup_of data_markup
+data_end_markup bytes text e = (rw e refl, rw e refl)

@@ -23,13 +23,13 @@ use Rattle.markup_rules.proofs.Cuts.{content_no_less, tag_item, end_tag_item}
 use Rattle.markup_rules.proofs.Asides.{aside_cut, aside_again, data_cut, content_markup}
 use Rattle.markup_rules.proofs.Lengths.{content_length, aside_length, tag_length, end_tag_length, inside_length}
 
-abbrev Cut : Type 0
+abbrev pub Cut : Type 0
 Cut = Item × List ℕ
 
-abbrev cut : Item → List ℕ → Cut
+abbrev pub cut : Item → List ℕ → Cut
 cut item rest = (item, rest)
 
-abbrev state : List Frame → Option Tree → Bool → State
+abbrev pub state : List Frame → Option Tree → Bool → State
 state frames root declared = record { frames = frames; root = root; declared = declared }
 
 -- ---- one item
@@ -138,11 +138,11 @@ same_frame total f frames declared rest cs ds t u p q =
     ap (λ c. rest_from total (state (frame f c t ∷ frames) None declared) rest) p ∙ ap (λ s. rest_from total (state (frame f ds s ∷ frames) None declared) rest) q
 
 -- an aside begins with <
-abbrev aside_tail : written.Aside → List ℕ → List ℕ
+abbrev pub aside_tail : written.Aside → List ℕ → List ℕ
 aside_tail (written.comment body) rest = codes "!--" ++ (body ++ (codes "-->" ++ rest))
 aside_tail (written.instruction body) rest = codes "?" ++ (body ++ (codes "?>" ++ rest))
 
-aside_front : (a : written.Aside) (rest : List ℕ) → aside_then a rest ≡ 60 ∷ aside_tail a rest
+pub aside_front : (a : written.Aside) (rest : List ℕ) → aside_then a rest ≡ 60 ∷ aside_tail a rest
 aside_front (written.comment body) rest = refl
 aside_front (written.instruction body) rest = refl
 

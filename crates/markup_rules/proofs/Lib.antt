@@ -14,3 +14,4 @@ pub mod Shorter
 pub mod Steps
 pub mod Utf8
 mod Values
+pub mod Whole
