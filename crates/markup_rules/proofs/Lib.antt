@@ -8,6 +8,7 @@ mod Fronts
 pub mod Fuel
 mod Lengths
 pub mod Numbers
+mod Parts
 pub mod Runs
 pub mod Searches
 pub mod Shorter
