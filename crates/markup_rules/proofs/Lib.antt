@@ -13,6 +13,7 @@ pub mod Runs
 pub mod Searches
 pub mod Shorter
 pub mod Steps
+mod Tags
 pub mod Utf8
 mod Values
 pub mod Whole
