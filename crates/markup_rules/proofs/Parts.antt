@@ -185,15 +185,15 @@ run_both front bytes p q = record {
   utf8 = is_utf8-from_IsUtf8 (front ++ bytes) (IsUtf8-append front bytes (IsUtf8-from_is_utf8 front p.utf8) (IsUtf8-from_is_utf8 bytes q.utf8));
 }
 
-prepend_is : (front : List ℕ) (c : Content) → IsRun front → IsContent c → IsContent (prepend front c)
+pub prepend_is : (front : List ℕ) (c : Content) → IsRun front → IsContent c → IsContent (prepend front c)
 prepend_is front (run bytes) p is = run_both front bytes p is
 prepend_is front (then_reference bytes r c) p is = (run_both front bytes p is.0, is.1, is.2)
 
-prepend_text : (front : List ℕ) (c : Content) (rest : List ℕ) → content_then (prepend front c) rest ≡ front ++ content_then c rest
+pub prepend_text : (front : List ℕ) (c : Content) (rest : List ℕ) → content_then (prepend front c) rest ≡ front ++ content_then c rest
 prepend_text front (run bytes) rest = append_assoc front bytes rest
 prepend_text front (then_reference bytes r c) rest = append_assoc front bytes (38 ∷ (reference_body r ++ (59 ∷ content_then c rest)))
 
-prepend_meaning : (front : List ℕ) (c : Content) → content_meaning (prepend front c) ≡ front ++ content_meaning c
+pub prepend_meaning : (front : List ℕ) (c : Content) → content_meaning (prepend front c) ≡ front ++ content_meaning c
 prepend_meaning front (run bytes) = refl
 prepend_meaning front (then_reference bytes r c) = append_assoc front bytes (encode_utf8 (character r) ++ content_meaning c)
 
