@@ -4,6 +4,7 @@ mod Complete
 pub mod Contents
 mod Cuts
 pub mod FaultLaw
+pub mod Found
 mod Fronts
 pub mod Fuel
 mod Joins
