@@ -1,9 +1,10 @@
 -- What a reader that is under way stands for.
-use Rattle.std.specs.Prelude.{◌≡◌, ℕ, List, reverse, map, option_map, string_bytes, length}
+use Rattle.std.specs.Prelude.{◌≡◌, ℕ, List, reverse, map, option_map, string_bytes, length, Some}
 use Rattle.outside.specs.declared.fault.Spot.{Spot}
 use Rattle.outside.specs.declared.fault.Stop.{Stop}
 use Rattle.outside.specs.declared.fault.Stop.TheVariants.{At, NoMemory}
 use Rattle.markup_rules.specs.Outcome as rules
+use Rattle.markup_rules.specs.Faults.{fault_of}
 use Rattle.markup_rules.specs.Reading.{Entry, Item, opens}
 use Rattle.markup.specs.Plain.{plain}
 use Rattle.markup.specs.declared.state.Open.{Open}
@@ -24,3 +25,8 @@ IsStop (At found) fault = found ≡ fault
 -- the item at the front of what is left of a text
 abbrev pub entry_of : List ℕ → Item → Entry
 entry_of rest item = record { left = length rest; opening = opens rest; item = item }
+
+-- want of memory is free, and a fault is the first one of the text by items
+abbrev pub IsFault : List ℕ → Stop → Type 0
+IsFault text NoMemory = Unit {0}
+IsFault text (At fault) = fault_of text ≡ Some fault

@@ -1,18 +1,17 @@
 -- What is written is cut off as one item, and is of its form: comments, instructions, document types and data.
-use Rattle.std.proofs.Common.{◌≡◌, ◌≢◌, ℕ, zero, suc, ◌+◌, ◌<◌, ◌≤◌, Bool, true, false, cond, not, ◌&&◌, List, [], ◌∷◌, ◌++◌, length, take, drop, Option, Some, None, refl, sym, ap, subst, ◌∙◌, append_assoc, append-nil, arith}
-use Rattle.std.specs.Prelude.{◌==◌, ◌||◌, IsTrue, codes, option_map, is_none, unwrap_or}
+use Rattle.std.proofs.Common.{◌≡◌, ℕ, suc, ◌+◌, Bool, true, false, cond, not, ◌&&◌, List, [], ◌∷◌, ◌++◌, length, drop, Option, Some, None, refl, sym, ap, ◌∙◌, append_assoc, arith}
+use Rattle.std.specs.Prelude.{◌==◌, codes, option_map, is_none}
 use Rattle.std.specs.List.{list_all}
 use Rattle.std.specs.Str.{is_utf8}
-use Rattle.std.proofs.lemmas.Bool.{and_parts, and_from, eq-eqb, and_right, or_parts}
+use Rattle.std.proofs.lemmas.Bool.{and_parts, and_right}
 use Rattle.std.proofs.lemmas.Bool.Decides.{nat_tests}
 use Rattle.std.proofs.lemmas.List.{take_at, drop_at, length-append}
-use Rattle.markup_rules.specs.Bytes.{is_blank, is_doctype_byte, is_doctype, is_text, is_plain, starts_blank, begins, first_place, place_of}
+use Rattle.markup_rules.specs.Bytes.{is_blank, is_doctype_byte, is_doctype, starts_blank, begins, first_place, place_of}
 use Rattle.markup_rules.specs.Syntax.{Content, content_then, content_text, content_meaning, IsContent, IsWithout, aside_then, IsAsideOf, IsAside}
 use Rattle.markup_rules.specs.Syntax as written
-use Rattle.markup_rules.specs.Reading.{◌>>=◌, Item, comment, instruction, declaration, data_between, data_to_end, unended, body_by, markup_at, data_by, item_at, Markup, aside, doctype, content, bad, content_of, data_markup, markup_of, comment_markup, instruction_markup, declaration_markup}
-use Rattle.markup_rules.proofs.Fronts.{place_again, before_place, behind_place, all_in, all_both}
-use Rattle.markup_rules.proofs.Values.{content_append, content_again}
-use Rattle.markup_rules.proofs.Cuts.{content_no_less}
+use Rattle.markup_rules.specs.Reading.{Item, comment, instruction, declaration, data_between, data_to_end, body_by, markup_at, data_by, item_at, aside, doctype, content, content_of, data_markup, markup_of, comment_markup, instruction_markup, declaration_markup}
+use Rattle.markup_rules.proofs.Fronts.{place_again, all_in}
+use Rattle.markup_rules.proofs.Values.{content_again}
 
 abbrev Cut : Type 0
 Cut = Item × List ℕ
@@ -108,8 +107,8 @@ data_cut b bytes rest apart =
     (ap (λ bs. cut (data_between bs) (drop (suc (length bytes)) ((b ∷ bytes) ++ 60 ∷ rest))) (take_at (b ∷ bytes) (60 ∷ rest) (suc (length bytes)) refl) ∙
     ap (cut (data_between (b ∷ bytes))) (drop_at (b ∷ bytes) (60 ∷ rest) (suc (length bytes)) refl)))
   where
-  first_no_less : (b : ℕ) (bytes : List ℕ) → (b == 60) ≡ false → cond (b == 60) (markup_at bytes) (data_by (b ∷ bytes) (place_of 60 (b ∷ bytes))) ≡ data_by (b ∷ bytes) (place_of 60 (b ∷ bytes))
-  first_no_less b bytes e = ap (λ is. cond is (markup_at bytes) (data_by (b ∷ bytes) (place_of 60 (b ∷ bytes)))) e
+    first_no_less : (b : ℕ) (bytes : List ℕ) → (b == 60) ≡ false → cond (b == 60) (markup_at bytes) (data_by (b ∷ bytes) (place_of 60 (b ∷ bytes))) ≡ data_by (b ∷ bytes) (place_of 60 (b ∷ bytes))
+    first_no_less b bytes e = ap (λ is. cond is (markup_at bytes) (data_by (b ∷ bytes) (place_of 60 (b ∷ bytes)))) e
 
 no_place : (bytes : List ℕ) → list_all (λ b. not (b == 60)) bytes ≡ true → place_of 60 bytes ≡ None
 no_place [] apart = refl

@@ -1,12 +1,12 @@
 -- Attributes, one by one: which of them are kept.
-use Rattle.std.proofs.Common.{◌≡◌, ℕ, ◌+◌, ◌<◌, Bool, true, false, cond, List, [], ◌∷◌, ◌++◌, length, map, Option, Some, None, refl, sym, ap, ◌∙◌, append_assoc, append-nil, arith}
+use Rattle.std.proofs.Common.{◌≡◌, ℕ, ◌<◌, Bool, true, false, cond, List, [], ◌∷◌, ◌++◌, length, map, Option, Some, None, refl, sym, ap, ◌∙◌, append_assoc, append-nil, arith}
 use Rattle.std.specs.Prelude.{IfSome}
 use Rattle.std.specs.List.{list_any}
 use Rattle.std.specs.Str.{bytes_eq}
 use Rattle.std.proofs.lemmas.List.{map-append}
 use Rattle.std.proofs.lemmas.Option.{some_pair_parts}
 use Rattle.markup_rules.specs.Syntax.{firsts}
-use Rattle.markup_rules.specs.Reading.{◌>>=◌, with_first, no_more, many, is_tag_end, attribute_at, attributes_at}
+use Rattle.markup_rules.specs.Reading.{◌>>=◌, with_first, many, is_tag_end, attribute_at, attributes_at}
 use Rattle.markup_rules.proofs.Fuel.{many_next, many_by}
 use Rattle.markup_rules.proofs.Shorter.{attribute_shortens}
 

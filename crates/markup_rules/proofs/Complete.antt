@@ -1,20 +1,18 @@
 -- What is written is read: the reading of a text that has a tree comes to that tree.
-use Rattle.std.proofs.Common.{◌≡◌, ℕ, zero, suc, ◌+◌, ◌-◌, ◌<◌, ◌≤◌, Bool, true, false, cond, not, ◌&&◌, List, [], ◌∷◌, ◌++◌, length, map, Option, Some, None, Ok, refl, sym, ap, subst, ◌∙◌, append_assoc, append-nil, arith}
-use Rattle.std.specs.Prelude.{◌==◌, ◌||◌, nat_le, codes, is_some, Result}
+use Rattle.std.proofs.Common.{◌≡◌, ℕ, zero, suc, ◌+◌, ◌-◌, ◌<◌, Bool, true, false, not, ◌&&◌, List, [], ◌∷◌, ◌++◌, length, map, Option, Some, None, refl, sym, ap, subst, ◌∙◌, append_assoc, append-nil, arith}
+use Rattle.std.specs.Prelude.{◌==◌, nat_le, codes}
 use Rattle.std.specs.List.{list_all}
-use Rattle.std.specs.Str.{bytes_eq}
 use Rattle.std.proofs.lemmas.Bool.{and_parts, and_right, and_left, lt-leb}
 use Rattle.std.proofs.lemmas.List.{length-map}
 use Rattle.std.proofs.lemmas.Slice.Eq.{bytes_eq-Decides}
-use Rattle.outside.specs.declared.fault.Spot.{Spot}
 use Rattle.outside.specs.Reading as outside
-use Rattle.markup_rules.specs.Bytes.{is_blank, is_doctype, starts_name}
+use Rattle.markup_rules.specs.Bytes.{is_blank, starts_name}
 use Rattle.markup_rules.specs.Tree.{Tree, node, trees_of}
 use Rattle.markup_rules.specs.Syntax.{IsName, Content, content_then, content_text, content_meaning, IsContent, Tag, tag_then, tag_attributes, IsTag, end_tag_then, aside_then, IsAside, Inside, only, then_aside, then_empty, then_child, inside_then, IsInside, own_text, children_from}
 use Rattle.markup_rules.specs.Syntax as written
 use Rattle.markup_rules.specs.Reading.{Item, comment, instruction, tag, data_between, item_at, opens, Markup, start, empty, finish, aside, content, content_of, markup_of}
-use Rattle.markup_rules.specs.Faults.{Place, item_fault, lacks_end, is_allowed_at}
-use Rattle.markup_rules.specs.Outcome.{Frame, State, place_of_state, begun, ended, adopted, changed, step, step_by}
+use Rattle.markup_rules.specs.Faults.{item_fault, lacks_end, is_allowed_at}
+use Rattle.markup_rules.specs.Outcome.{Frame, State, place_of_state, begun, ended, adopted, changed, step_by}
 use Rattle.markup_rules.proofs.Fuel.{entry_at}
 use Rattle.markup_rules.proofs.Steps.{rest_from, rest_next}
 use Rattle.markup_rules.proofs.Contents.{content_end}
@@ -74,9 +72,9 @@ texted_frame f text = record f { text = f.text ++ text }
 not_less : (b : ℕ) (bytes : List ℕ) → list_all (λ b. not (b == 60)) (b ∷ bytes) ≡ true → (b == 60) ≡ false
 not_less b bytes apart = not_true (b == 60) (and_parts (not (b == 60)) (list_all (λ b. not (b == 60)) bytes) apart).0
   where
-  not_true : (b : Bool) → not b ≡ true → b ≡ false
-  not_true true e = absurd cc
-  not_true false e = refl
+    not_true : (b : Bool) → not b ≡ true → b ≡ false
+    not_true true e = absurd cc
+    not_true false e = refl
 
 some_same : (a b : List ℕ) → (let o : Option (List ℕ) = Some a in o ≡ Some b) → a ≡ b
 some_same a b e = cc

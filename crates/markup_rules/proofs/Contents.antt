@@ -1,10 +1,10 @@
 -- Content, piece by piece.
-use Rattle.std.proofs.Common.{◌≡◌, ℕ, ◌+◌, ◌<◌, Bool, true, false, List, [], ◌∷◌, ◌++◌, length, Option, Some, None, refl, sym, ap, ◌∙◌, append_assoc, append-nil, arith}
+use Rattle.std.proofs.Common.{◌≡◌, ℕ, ◌<◌, false, List, [], ◌∷◌, ◌++◌, length, Option, Some, None, refl, sym, ap, ◌∙◌, append_assoc, append-nil, arith}
 use Rattle.std.specs.Prelude.{IfSome, nat_eq}
 use Rattle.std.specs.List.{concat}
 use Rattle.std.proofs.lemmas.Option.{some_pair_parts}
-use Rattle.markup_rules.specs.Reading.{◌>>=◌, with_first, no_more, many, is_nil, piece_at, content_of}
-use Rattle.markup_rules.proofs.Fuel.{many_next, many_by}
+use Rattle.markup_rules.specs.Reading.{◌>>=◌, with_first, many, is_nil, piece_at, content_of}
+use Rattle.markup_rules.proofs.Fuel.{many_next}
 use Rattle.markup_rules.proofs.Shorter.{piece_shortens}
 
 -- what content means behind something

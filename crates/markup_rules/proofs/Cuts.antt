@@ -1,15 +1,14 @@
 -- What is written is cut off as one item: tags, comments, instructions, document types and data.
-use Rattle.std.proofs.Common.{◌≡◌, ◌≢◌, ℕ, zero, suc, ◌+◌, ◌<◌, ◌≤◌, Bool, true, false, cond, not, ◌&&◌, List, [], ◌∷◌, ◌++◌, length, take, drop, Option, Some, None, refl, sym, ap, subst, ◌∙◌, append_assoc, append-nil, arith, ◌⊎◌, inl, inr}
-use Rattle.std.specs.Prelude.{◌==◌, ◌||◌, IsTrue, codes, option_map, is_none}
+use Rattle.std.proofs.Common.{◌≡◌, ℕ, suc, ◌+◌, Bool, true, false, not, ◌&&◌, List, [], ◌∷◌, ◌++◌, length, drop, Option, Some, None, refl, sym, ap, subst, ◌∙◌, append_assoc, arith, ◌⊎◌, inl, inr}
+use Rattle.std.specs.Prelude.{◌==◌, option_map}
 use Rattle.std.specs.List.{list_all}
-use Rattle.std.proofs.lemmas.Bool.{and_parts, and_from, eq-eqb, and_right, or_parts}
+use Rattle.std.proofs.lemmas.Bool.{and_parts, and_right}
 use Rattle.std.proofs.lemmas.Bool.Decides.{nat_tests}
 use Rattle.std.proofs.lemmas.List.{take_at, drop_at, length-append}
-use Rattle.markup_rules.specs.Bytes.{is_blank, is_plain, is_name_start, is_name_byte, is_doctype_byte, is_doctype, is_text, starts_name, starts_blank, begins, first_place, place_of}
-use Rattle.markup_rules.specs.Syntax.{IsName, Reference, ampersand, less, greater, quotation, apostrophe, decimal, hexadecimal, reference_body, IsReference, Content, run, then_reference, content_then, content_text, IsContent, Attribute, attribute_then, IsAttribute, attributes_then, AreAttributes, Tag, tag_then, IsTag, end_tag_then, IsWithout, Aside, aside_then, IsAsideOf, IsAside}
-use Rattle.markup_rules.specs.Syntax as written
-use Rattle.markup_rules.specs.Reading.{Item, comment, instruction, declaration, tag, broken, unended, data_between, data_to_end, body_by, quote_after, ends_tag, tag_end, tag_before, tag_by, markup_at, data_by, item_at, Markup, aside, doctype, bad, markup_of, comment_markup, instruction_markup, declaration_markup}
-use Rattle.markup_rules.proofs.Fronts.{place_again, before_place, behind_place, all_in, all_both}
+use Rattle.markup_rules.specs.Bytes.{is_blank, is_plain, is_name_start, is_name_byte, starts_name}
+use Rattle.markup_rules.specs.Syntax.{IsName, Reference, ampersand, less, greater, quotation, apostrophe, decimal, hexadecimal, reference_body, IsReference, Content, run, then_reference, content_then, content_text, IsContent, Attribute, attribute_then, IsAttribute, attributes_then, AreAttributes, Tag, tag_then, IsTag, end_tag_then}
+use Rattle.markup_rules.specs.Reading.{Item, tag, tag_end, tag_before, tag_by, markup_at, item_at}
+use Rattle.markup_rules.proofs.Fronts.{all_in, all_both}
 use Rattle.markup_rules.proofs.Values.{content_append, tag_body}
 use Rattle.std.specs.Char.{is_ascii_digit, is_ascii_hexdigit}
 
@@ -186,17 +185,17 @@ markup_tag (b ∷ body) rest begun scan =
     let parts = and_parts (not (33 == b)) (not (63 == b)) begun in
     rw (not_true (33 == b) parts.0, not_true (63 == b) parts.1) (tag_cut (b ∷ body) rest scan)
   where
-  tag_cut : (body rest : List ℕ) → Scans None body None → tag_by (body ++ 62 ∷ rest) (tag_end None (body ++ 62 ∷ rest)) ≡ cut (tag body) rest
-  tag_cut body rest scan =
-      ap (tag_by (body ++ 62 ∷ rest)) (scan_end body rest scan) ∙ (ap (λ bs. tag_before bs (drop (length body) (body ++ 62 ∷ rest))) (take_at body (62 ∷ rest) (length body) refl) ∙
-      ap (tag_before body) (drop_at body (62 ∷ rest) (length body) refl))
+    tag_cut : (body rest : List ℕ) → Scans None body None → tag_by (body ++ 62 ∷ rest) (tag_end None (body ++ 62 ∷ rest)) ≡ cut (tag body) rest
+    tag_cut body rest scan =
+        ap (tag_by (body ++ 62 ∷ rest)) (scan_end body rest scan) ∙ (ap (λ bs. tag_before bs (drop (length body) (body ++ 62 ∷ rest))) (take_at body (62 ∷ rest) (length body) refl) ∙
+        ap (tag_before body) (drop_at body (62 ∷ rest) (length body) refl))
 
 name_starts_tag : (name rest : List ℕ) → starts_name name ≡ true → starts_tag (name ++ rest) ≡ true
 name_starts_tag [] rest begun = absurd cc
 name_starts_tag (b ∷ name) rest begun = start_no_mark b begun
   where
-  start_no_mark : (b : ℕ) → is_name_start b ≡ true → (not (33 == b) && not (63 == b)) ≡ true
-  start_no_mark b name = grind (arith, nat_tests)
+    start_no_mark : (b : ℕ) → is_name_start b ≡ true → (not (33 == b) && not (63 == b)) ≡ true
+    start_no_mark b name = grind (arith, nat_tests)
 
 attributes_append : (attributes : List Attribute) (last rest : List ℕ) → attributes_then attributes (last ++ rest) ≡ attributes_then attributes last ++ rest
 attributes_append [] last rest = refl

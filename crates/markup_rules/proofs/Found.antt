@@ -1,8 +1,8 @@
 -- What is read is written so: whole texts.
-use Rattle.std.proofs.Common.{◌≡◌, ℕ, zero, suc, ◌+◌, ◌-◌, ◌<◌, ◌≤◌, Bool, true, false, cond, not, ◌&&◌, List, [], ◌∷◌, ◌++◌, length, drop, map, Option, Some, None, Ok, Err, refl, sym, ap, subst, ◌∙◌, append_assoc, append-nil, arith, ◌⊎◌, inl, inr}
-use Rattle.std.specs.Prelude.{◌==◌, ◌||◌, nat_le, codes, Result}
+use Rattle.std.proofs.Common.{◌≡◌, ℕ, zero, suc, ◌+◌, ◌-◌, ◌≤◌, Bool, true, false, cond, List, [], ◌∷◌, ◌++◌, length, drop, Some, None, Ok, refl, sym, ap, subst, ◌∙◌, append_assoc, arith, ◌⊎◌, inl, inr}
+use Rattle.std.specs.Prelude.{codes, Result}
 use Rattle.std.specs.List.{list_all}
-use Rattle.std.proofs.lemmas.Bool.{and_parts, and_from}
+use Rattle.std.proofs.lemmas.Bool.{and_from}
 use Rattle.std.proofs.lemmas.List.{length-append}
 use Rattle.std.proofs.lemmas.List.Folds.{list_all-append}
 use Rattle.outside.specs.declared.fault.Spot.{Spot}
@@ -10,16 +10,16 @@ use Rattle.markup_rules.specs.Bytes.{is_blank, is_doctype, begins}
 use Rattle.markup_rules.specs.Tree.{Tree, node, trees_of}
 use Rattle.markup_rules.specs.Syntax.{IsName, Content, content_then, content_text, content_meaning, IsContent, Tag, tag_then, tag_attributes, IsTag, end_tag_then, aside_then, IsAside, Inside, inside_then, Outside, white, and_aside, outside_then, IsOutside, Prolog, undeclared, declared, prolog_then, IsProlog, Root, empty_root, full_root, root_then, IsRoot, root_tree, order_mark, IsTree}
 use Rattle.markup_rules.specs.Syntax as written
-use Rattle.markup_rules.specs.Reading.{Item, item_at, opens, Markup, start, empty, finish, aside, doctype, content, bad, markup_of, is_nil}
-use Rattle.markup_rules.specs.Faults.{is_allowed_at, after_mark}
-use Rattle.markup_rules.specs.Outcome.{Frame, State, initial, place_of_state, begun, ended, changed, outcome, root_or_fault}
+use Rattle.markup_rules.specs.Reading.{item_at, Markup, markup_of}
+use Rattle.markup_rules.specs.Faults.{is_allowed_at}
+use Rattle.markup_rules.specs.Outcome.{State, initial, place_of_state, begun, changed, outcome}
 use Rattle.markup_rules.proofs.Fuel.{item_length}
 use Rattle.markup_rules.proofs.Steps.{rest_from, rest_begins, rest_done}
 use Rattle.markup_rules.proofs.Values.{content_append, opening_of}
-use Rattle.markup_rules.proofs.Lengths.{content_length, aside_length, tag_length, end_tag_length, inside_length, prolog_length}
+use Rattle.markup_rules.proofs.Lengths.{content_length, aside_length, tag_length}
 use Rattle.markup_rules.proofs.Told.{Read, of_aside, of_doctype, of_finish, of_start, of_empty, of_content, of_bad, item_read, begins_is_front}
-use Rattle.markup_rules.proofs.Complete.{state, grown}
-use Rattle.markup_rules.proofs.Sound.{Takes, step_takes, IsFoundInside, inside_takes}
+use Rattle.markup_rules.proofs.Complete.{state}
+use Rattle.markup_rules.proofs.Sound.{step_takes, inside_takes}
 
 -- ---- blanks in front of what stands round the root
 
@@ -161,7 +161,7 @@ at_aside at d bytes left a tree is spelled later = record {
   spelled = spelled ∙ (ap (aside_then a) later.spelled ∙ sym (aside_before_text a later.front (root_then later.root (outside_then later.after []))));
   means =
       (let place : at + length (prolog_then (aside_before a later.front) []) ≡ (at + length (aside_then a [])) + length (prolog_then later.front []) = omega (arith, ap length (aside_before_text a later.front []), aside_length a (prolog_then later.front [])) in
-        ap (λ n. root_tree n later.root) place ∙ later.means);
+      ap (λ n. root_tree n later.root) place ∙ later.means);
 }
 
 at_blanks : (at : ℕ) (d : Bool) (bytes left blanks : List ℕ) (tree : Tree) → list_all is_blank blanks ≡ true → bytes ≡ blanks ++ left → FoundBefore (at + length blanks) d left tree → FoundBefore at d bytes tree
@@ -176,7 +176,7 @@ at_blanks at d bytes left blanks tree blank spelled later = record {
   spelled = spelled ∙ (ap (λ bs. blanks ++ bs) later.spelled ∙ sym (blanks_before_text blanks later.front (root_then later.root (outside_then later.after []))));
   means =
       (let place : at + length (prolog_then (blanks_before blanks later.front) []) ≡ (at + length blanks) + length (prolog_then later.front []) = omega (arith, ap length (blanks_before_text blanks later.front []), length-append blanks (prolog_then later.front [])) in
-        ap (λ n. root_tree n later.root) place ∙ later.means);
+      ap (λ n. root_tree n later.root) place ∙ later.means);
 }
 
 -- the document type, behind which there is no other
@@ -205,8 +205,8 @@ at_doctype at bytes left text tree is spelled later =
       spelled = spelled ∙ ap (λ bs. codes "<!DOCTYPE" ++ (text ++ (codes ">" ++ bs))) (later.spelled ∙ ap (λ p. prolog_then p (root_then later.root (outside_then later.after []))) plain.same);
       means =
           (let place : at + length (prolog_then (declared (white []) text plain.outside) []) ≡ (at + length (codes "<!DOCTYPE" ++ (text ++ codes ">"))) + length (prolog_then later.front []) =
-            omega (arith, doctype_length text (outside_then plain.outside []), ap (λ p. length (prolog_then p [])) plain.same) in
-            ap (λ n. root_tree n later.root) place ∙ later.means);
+          omega (arith, doctype_length text (outside_then plain.outside []), ap (λ p. length (prolog_then p [])) plain.same) in
+          ap (λ n. root_tree n later.root) place ∙ later.means);
     }
 
 -- the root, in front of which nothing is left
@@ -274,7 +274,7 @@ tree_found text mark rest tree spelled marked found = record {
   spelled = spelled ∙ ap (λ bs. mark ++ bs) found.spelled;
   means =
       (let place : length (mark ++ prolog_then found.front []) ≡ length mark + length (prolog_then found.front []) = length-append mark (prolog_then found.front []) in
-        sym (ap (λ n. root_tree n found.root) place ∙ found.means));
+      sym (ap (λ n. root_tree n found.root) place ∙ found.means));
 }
 
 mark_cases : (text : List ℕ) (tree : Tree) (is : Bool) → begins order_mark text ≡ is → rest_from (length text) initial (cond is (drop 3 text) text) ≡ Ok tree → IsTree text tree

@@ -1,14 +1,9 @@
 -- Content in front of content, and of what stands in an element.
-use Rattle.std.proofs.Common.{◌≡◌, ℕ, zero, suc, ◌+◌, Bool, true, List, [], ◌∷◌, ◌++◌, length, refl, sym, ap, ◌∙◌, append_assoc, arith}
+use Rattle.std.proofs.Common.{◌≡◌, ℕ, zero, suc, ◌+◌, List, [], ◌∷◌, ◌++◌, length, refl, sym, ap, ◌∙◌, append_assoc, arith}
 use Rattle.std.specs.Prelude.{codes, encode_utf8}
-use Rattle.std.specs.Str.{is_utf8}
-use Rattle.std.specs.List.{list_all}
-use Rattle.std.proofs.lemmas.Bool.{and_from}
-use Rattle.std.proofs.lemmas.List.Folds.{list_all-append}
-use Rattle.std.proofs.lemmas.Str.{IsUtf8-append, IsUtf8-nil, IsUtf8-from_is_utf8, is_utf8-from_IsUtf8}
-use Rattle.markup_rules.specs.Bytes.{is_plain}
+use Rattle.std.proofs.lemmas.Str.{IsUtf8-nil, is_utf8-from_IsUtf8}
 use Rattle.markup_rules.specs.Tree.{Tree, node, trees_of}
-use Rattle.markup_rules.specs.Syntax.{Reference, reference_body, character, Content, run, then_reference, content_then, content_text, content_meaning, IsContent, IsRun, Tag, tag_then, tag_attributes, aside_then, Inside, only, then_aside, then_empty, then_child, inside_then, end_tag_then, IsInside, own_text, children_from}
+use Rattle.markup_rules.specs.Syntax.{reference_body, character, Content, run, then_reference, content_then, content_text, content_meaning, IsContent, IsRun, Tag, tag_then, tag_attributes, aside_then, Inside, only, then_aside, then_empty, then_child, inside_then, end_tag_then, IsInside, own_text, children_from}
 use Rattle.markup_rules.proofs.Parts.{prepend, prepend_is, prepend_text, prepend_meaning}
 use Rattle.markup_rules.proofs.Lengths.{content_length}
 

@@ -1,22 +1,19 @@
 -- What is read in front of something is written so: runs, names, references and content.
-use Rattle.std.proofs.Common.{◌≡◌, ◌≢◌, ℕ, zero, suc, ◌+◌, ◌<◌, ◌≤◌, Bool, true, false, cond, not, ◌&&◌, List, [], ◌∷◌, ◌++◌, length, take, drop, map, Option, Some, None, refl, sym, ap, subst, ◌∙◌, append_assoc, append-nil, arith, ◌⊎◌, inl, inr}
-use Rattle.std.specs.Prelude.{◌==◌, ◌||◌, nat_lt, IsTrue, codes, encode_utf8, option_map, IfSome}
+use Rattle.std.proofs.Common.{◌≡◌, ℕ, zero, suc, ◌+◌, ◌≤◌, Bool, true, false, cond, not, ◌&&◌, List, [], ◌∷◌, ◌++◌, length, take, drop, Option, Some, None, refl, sym, ap, subst, ◌∙◌, append_assoc, arith}
+use Rattle.std.specs.Prelude.{◌==◌, nat_lt, codes, encode_utf8, option_map}
 use Rattle.std.specs.List.{list_all}
 use Rattle.std.specs.Str.{is_utf8, bytes_eq}
 use Rattle.std.specs.Str.Parse.{digits_value}
 use Rattle.std.specs.Char.{is_ascii_digit, is_ascii_hexdigit}
-use Rattle.std.proofs.lemmas.Bool.{and_parts, and_from, ltb-true, eqb-true, eqb-false, or_cases, cases_Bool}
-use Rattle.std.proofs.lemmas.Bool.Decides.{nat_tests}
-use Rattle.std.proofs.lemmas.List.{length-append, take-append-drop}
+use Rattle.std.proofs.lemmas.Bool.{and_parts, and_from, ltb-true, eqb-true}
 use Rattle.std.proofs.lemmas.List.Folds.{list_all-append}
 use Rattle.std.proofs.lemmas.Option.{cond_some, some_pair_parts}
 use Rattle.std.proofs.lemmas.Slice.Eq.{bytes_eq-Decides}
 use Rattle.std.proofs.lemmas.Str.{IsUtf8-append, IsUtf8-nil, IsUtf8-from_is_utf8, is_utf8-from_IsUtf8}
-use Rattle.markup_rules.specs.Bytes.{is_blank, is_plain, is_name_start, is_name_byte, is_allowed, starts_name, starts_blank, run_at, after_run, place_of}
+use Rattle.markup_rules.specs.Bytes.{is_plain, is_name_start, is_name_byte, is_allowed, starts_name, run_at, after_run, place_of}
 use Rattle.markup_rules.specs.Syntax.{IsName, Reference, ampersand, less, greater, quotation, apostrophe, decimal, hexadecimal, reference_body, character, IsNumbered, IsReference, Content, run, then_reference, content_then, content_text, content_meaning, IsRun, IsContent}
 use Rattle.markup_rules.specs.Reading.{◌>>=◌, name_at, allowed, numbered, number_of, number_reference, character_of, reference_at, run_of, piece_at, content_of}
-use Rattle.markup_rules.proofs.Contents.{content_by, content_next, content_end, content_shorter}
-use Rattle.markup_rules.proofs.Values.{content_append}
+use Rattle.markup_rules.proofs.Contents.{content_next, content_end, content_shorter}
 
 -- ---- steps
 
@@ -78,8 +75,8 @@ starts_run : (bytes : List ℕ) → starts_name bytes ≡ true → starts_name (
 starts_run [] e = absurd cc
 starts_run (b ∷ bytes) e = rw (start_is_byte b e) e
   where
-  start_is_byte : (b : ℕ) → is_name_start b ≡ true → is_name_byte b ≡ true
-  start_is_byte b e = rw e refl
+    start_is_byte : (b : ℕ) → is_name_start b ≡ true → is_name_byte b ≡ true
+    start_is_byte b e = rw e refl
 
 pub name_takes : (bytes name rest : List ℕ) → name_at bytes ≡ Some (name, rest) → TakesName bytes name rest
 unfolding name_at
@@ -104,12 +101,12 @@ numbered_takes : (radix : ℕ) (class : ℕ → Bool) (digits : List ℕ) (c : �
 unfolding numbered allowed
 numbered_takes radix class digits c found = numbered_cases (nat_lt 0 (length digits) && list_all class digits) (is_allowed (digits_value radix digits)) refl refl found
   where
-  numbered_cases : (formed fits : Bool) → (nat_lt 0 (length digits) && list_all class digits) ≡ formed → is_allowed (digits_value radix digits) ≡ fits → cond formed (cond fits (Some (digits_value radix digits)) None) None ≡ Some c → IsNumbered radix class digits × (digits_value radix digits ≡ c)
-  numbered_cases true true p q e =
-      let tests = and_parts (nat_lt 0 (length digits)) (list_all class digits) p in
-      (record { some = omega (arith, ltb-true 0 (length digits) tests.0); each = tests.1; allowed = q }, same_some (digits_value radix digits) c e)
-  numbered_cases true false p q e = absurd cc
-  numbered_cases false fits p q e = absurd cc
+    numbered_cases : (formed fits : Bool) → (nat_lt 0 (length digits) && list_all class digits) ≡ formed → is_allowed (digits_value radix digits) ≡ fits → cond formed (cond fits (Some (digits_value radix digits)) None) None ≡ Some c → IsNumbered radix class digits × (digits_value radix digits ≡ c)
+    numbered_cases true true p q e =
+        let tests = and_parts (nat_lt 0 (length digits)) (list_all class digits) p in
+        (record { some = omega (arith, ltb-true 0 (length digits) tests.0); each = tests.1; allowed = q }, same_some (digits_value radix digits) c e)
+    numbered_cases true false p q e = absurd cc
+    numbered_cases false fits p q e = absurd cc
 
 hexadecimal_found : (b : ℕ) (digits : List ℕ) (c : ℕ) → b ≡ 120 → IsNumbered 16 is_ascii_hexdigit digits × (digits_value 16 digits ≡ c) → IsCharacter (35 ∷ (b ∷ digits)) c
 hexadecimal_found b digits c e is = record { reference = hexadecimal digits; is = is.0; spelled = ap (λ x. 35 ∷ (x ∷ digits)) e; means = is.1 }

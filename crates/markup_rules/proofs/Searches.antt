@@ -1,9 +1,9 @@
 -- How what a search of bytes answers is a word of these definitions.
-use Rattle.std.proofs.Common.{◌≡◌, ℕ, zero, suc, ◌+◌, ◌<◌, ◌≤◌, Bool, true, false, ◌&&◌, List, [], ◌∷◌, length, take, drop, Option, Some, None, refl, sym, ap, ◌∙◌, arith}
-use Rattle.std.specs.Prelude.{nat_eq, option_map, IfSome, ◌==◌}
+use Rattle.std.proofs.Common.{◌≡◌, ℕ, ◌+◌, ◌<◌, Bool, false, ◌&&◌, List, [], ◌∷◌, length, drop, Option, Some, None, refl, sym, ap, ◌∙◌, arith}
+use Rattle.std.specs.Prelude.{nat_eq, option_map, ◌==◌}
 use Rattle.std.specs.List.{starts_with}
 use Rattle.std.proofs.lemmas.List.{length-drop, drop-drop}
-use Rattle.markup_rules.specs.Bytes.{begins, first_place, place_of}
+use Rattle.markup_rules.specs.Bytes.{begins, first_place}
 
 -- a mark at the front
 pub begins_is : (mark bytes : List ℕ) → starts_with nat_eq bytes mark ≡ begins mark bytes

@@ -1,9 +1,9 @@
 -- Each reader leaves fewer bytes than it was given.
-use Rattle.std.proofs.Common.{◌≡◌, ℕ, suc, ◌+◌, ◌<◌, ◌≤◌, Bool, true, false, cond, ◌&&◌, List, [], ◌∷◌, length, take, drop, Option, Some, None, refl, arith}
+use Rattle.std.proofs.Common.{ℕ, suc, ◌+◌, ◌<◌, ◌≤◌, Bool, true, false, cond, ◌&&◌, List, [], ◌∷◌, length, take, drop, Option, Some, None, arith}
 use Rattle.std.specs.Prelude.{◌==◌, ◌||◌, nat_lt, IfSome, encode_utf8}
 use Rattle.std.specs.Str.{is_utf8}
 use Rattle.std.proofs.lemmas.List.{length-drop}
-use Rattle.markup_rules.specs.Bytes.{is_blank, is_name_byte, is_plain, starts_name, starts_blank, run_at, after_run, place_of}
+use Rattle.markup_rules.specs.Bytes.{is_blank, is_name_byte, is_plain, starts_name, run_at, after_run, place_of}
 use Rattle.markup_rules.specs.Reading.{◌>>=◌, name_at, reference_at, character_of, run_of, piece_at, content_of, blank_at, equals_at, quoted_at, value_at, label_at, attribute_at}
 use Rattle.markup_rules.proofs.Fuel.{Shortens, after_run_length}
 
@@ -102,7 +102,7 @@ label_named : (n : ℕ) (name : List ℕ × List ℕ) → length name.1 < n → 
 label_named n name less =
     shorter_bind n (equals_at (after_run is_blank name.1)) (λ rest. Some (name.0, after_run is_blank rest)) (λ r. length r ≤ length (after_run is_blank name.1)) (equals_within (after_run is_blank name.1))
     (λ rest within. let low : length rest ≤ length (after_run is_blank name.1) = within in
-      omega (arith, after_run_length is_blank name.1, after_run_length is_blank rest))
+    omega (arith, after_run_length is_blank name.1, after_run_length is_blank rest))
 
 label_shortens : Shortens label_at
 unfolding label_at
@@ -110,8 +110,8 @@ label_shortens bytes =
     shorter_bind (length bytes) (blank_at bytes) (λ rest. name_at rest >>= λ name. equals_at (after_run is_blank name.1) >>= λ rest. Some (name.0, after_run is_blank rest)) (λ r. length r < length bytes) (blank_shorter bytes)
     (λ rest less. shorter_bind (length bytes) (name_at rest) (λ name. equals_at (after_run is_blank name.1) >>= λ rest. Some (name.0, after_run is_blank rest)) (λ r. length r.1 ≤ length rest) (name_within rest)
     (λ name within. let low : length rest < length bytes = less in
-      let next : length name.1 ≤ length rest = within in
-      label_named (length bytes) name (omega arith)))
+    let next : length name.1 ≤ length rest = within in
+    label_named (length bytes) name (omega arith)))
 
 pub attribute_shortens : Shortens attribute_at
 unfolding attribute_at
@@ -119,5 +119,5 @@ attribute_shortens bytes =
     shorter_bind (length bytes) (label_at bytes) (λ label. value_at label.1 >>= λ value. Some ((label.0, value.0), value.1)) (λ r. length r.1 < length bytes) (label_shortens bytes)
     (λ label less. shorter_bind (length bytes) (value_at label.1) (λ value. Some ((label.0, value.0), value.1)) (λ r. length r.1 ≤ length label.1) (value_within label.1)
     (λ value within. let low : length label.1 < length bytes = less in
-      let next : length value.1 ≤ length label.1 = within in
-      omega arith))
+    let next : length value.1 ≤ length label.1 = within in
+    omega arith))

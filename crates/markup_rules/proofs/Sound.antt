@@ -1,30 +1,28 @@
 -- What is read is written so: a tree that the reading of a text comes to is the tree of the text.
-use Rattle.std.proofs.Common.{◌≡◌, ℕ, zero, suc, ◌+◌, ◌-◌, ◌<◌, ◌≤◌, Bool, true, false, cond, not, ◌&&◌, List, [], ◌∷◌, ◌++◌, length, drop, map, Option, Some, None, Ok, Err, refl, sym, ap, subst, ◌∙◌, append_assoc, append-nil, arith, ◌⊎◌, inl, inr}
-use Rattle.std.specs.Prelude.{◌==◌, ◌||◌, nat_le, codes, Result}
+use Rattle.std.proofs.Common.{◌≡◌, ℕ, zero, suc, ◌+◌, ◌-◌, ◌<◌, ◌≤◌, Bool, true, false, cond, ◌&&◌, List, [], ◌∷◌, ◌++◌, length, map, Option, Some, None, Ok, refl, sym, ap, subst, ◌∙◌, append_assoc, append-nil, arith}
+use Rattle.std.specs.Prelude.{nat_le, codes, Result}
 use Rattle.std.specs.List.{list_all}
 use Rattle.std.specs.Str.{bytes_eq}
-use Rattle.std.proofs.lemmas.Bool.{and_parts, leb-false, lt-leb}
-use Rattle.std.proofs.lemmas.List.{length-map, length-append}
-use Rattle.std.proofs.lemmas.List.Folds.{list_all-append}
+use Rattle.std.proofs.lemmas.Bool.{leb-false}
+use Rattle.std.proofs.lemmas.List.{length-map}
 use Rattle.std.proofs.lemmas.Slice.Eq.{bytes_eq-Decides}
 use Rattle.outside.specs.declared.fault.Kind.TheVariants.{Unfinished, BadText, TooDeep}
 use Rattle.outside.specs.declared.fault.Spot.{Spot}
 use Rattle.outside.specs.Reading as outside
-use Rattle.markup_rules.specs.Bytes.{is_blank, is_doctype, begins, starts_name}
+use Rattle.markup_rules.specs.Bytes.{is_blank, starts_name}
 use Rattle.markup_rules.specs.Tree.{Tree, node, trees_of}
 use Rattle.markup_rules.specs.Syntax.{IsName, Content, run, then_reference, content_then, content_text, content_meaning, IsContent, IsRun, Tag, tag_then, tag_attributes, IsTag, end_tag_then, aside_then, IsAside, Inside, only, then_aside, then_empty, then_child, inside_then, IsInside, own_text, children_from}
 use Rattle.markup_rules.specs.Syntax as written
-use Rattle.markup_rules.specs.Reading.{Item, item_at, opens, Markup, start, empty, finish, aside, doctype, content, bad, markup_of, is_nil}
-use Rattle.markup_rules.specs.Faults.{Place, spot, item_fault, lacks_end, is_allowed_at}
-use Rattle.markup_rules.specs.Outcome.{Frame, State, place_of_state, begun, ended, adopted, closed, texted, changed, step, step_by, root_or_fault}
+use Rattle.markup_rules.specs.Reading.{item_at, opens, Markup, markup_of}
+use Rattle.markup_rules.specs.Faults.{spot, lacks_end, is_allowed_at}
+use Rattle.markup_rules.specs.Outcome.{Frame, State, place_of_state, begun, ended, adopted, changed, step_by, root_or_fault}
 use Rattle.markup_rules.proofs.Fuel.{entry_at, item_length}
 use Rattle.markup_rules.proofs.Steps.{rest_from, rest_next, rest_done}
-use Rattle.markup_rules.proofs.Values.{content_append, opening_of}
-use Rattle.markup_rules.proofs.Parts.{prepend}
+use Rattle.markup_rules.proofs.Values.{opening_of}
 use Rattle.markup_rules.proofs.Lengths.{content_length, aside_length, tag_length, end_tag_length, inside_length}
 use Rattle.markup_rules.proofs.Told.{Read, of_aside, of_doctype, of_finish, of_start, of_empty, of_content, of_bad, item_read}
 use Rattle.markup_rules.proofs.Complete.{state, grown}
-use Rattle.markup_rules.proofs.Joins.{join, join_is, join_text, join_meaning, with_content, with_content_is, with_content_text, with_content_own, with_content_children, empty_run}
+use Rattle.markup_rules.proofs.Joins.{with_content, with_content_is, with_content_text, with_content_own, with_content_children, empty_run}
 
 -- ---- one item
 
@@ -194,9 +192,9 @@ has_room frames e = omega (arith, leb-false 64 (suc (length (map (λ (f : Frame)
 opens_tag : (t : Tag) (rest : List ℕ) → IsTag t → opens (tag_then t rest) ≡ true
 opens_tag t rest is = starts_before t.name (written.attributes_then t.attributes (t.blanks ++ rest)) is.named.begun
   where
-  starts_before : (name rest : List ℕ) → starts_name name ≡ true → starts_name (name ++ rest) ≡ true
-  starts_before [] rest e = absurd cc
-  starts_before (b ∷ name) rest e = e
+    starts_before : (name rest : List ℕ) → starts_name name ≡ true → starts_name (name ++ rest) ≡ true
+    starts_before [] rest e = absurd cc
+    starts_before (b ∷ name) rest e = e
 
 tag_room : (t : Tag) (bytes rest : List ℕ) (frames : List Frame) → IsTag t → bytes ≡ tag_then t rest → (opens bytes && nat_le 64 (suc (length (map (λ (f : Frame). f.name) frames)))) ≡ false → length frames < 63
 tag_room t bytes rest frames is spelled e =

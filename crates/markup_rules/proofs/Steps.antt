@@ -1,10 +1,10 @@
 -- Reading item by item, as a loop over the text does.
-use Rattle.std.proofs.Common.{◌≡◌, ℕ, ◌<◌, ◌≤◌, List, [], ◌∷◌, length, Ok, Err, refl, sym, ap, ◌∙◌, arith}
+use Rattle.std.proofs.Common.{◌≡◌, ℕ, ◌<◌, List, [], ◌∷◌, length, Ok, Err, refl, sym, ap, ◌∙◌, arith}
 use Rattle.std.specs.Prelude.{Result}
 use Rattle.outside.specs.declared.fault.Spot.{Spot}
 use Rattle.outside.specs.Reading.{◌>>=◌}
 use Rattle.markup_rules.specs.Tree.{Tree}
-use Rattle.markup_rules.specs.Reading.{Entry, item_at, items_of, items_to}
+use Rattle.markup_rules.specs.Reading.{item_at, items_of}
 use Rattle.markup_rules.specs.Faults.{after_mark}
 use Rattle.markup_rules.specs.Outcome.{State, initial, step, run, root_or_fault, outcome}
 use Rattle.markup_rules.proofs.Fuel.{entry_at, items_next, item_length}

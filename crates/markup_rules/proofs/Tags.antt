@@ -1,19 +1,18 @@
 -- What is read in front of something is written so: attributes and tags.
-use Rattle.std.proofs.Common.{◌≡◌, ◌≢◌, ℕ, zero, suc, ◌+◌, ◌<◌, ◌≤◌, Bool, true, false, cond, not, ◌&&◌, List, [], ◌∷◌, ◌++◌, length, take, drop, map, Option, Some, None, refl, sym, ap, subst, ◌∙◌, append_assoc, append-nil, arith, ◌⊎◌, inl, inr}
-use Rattle.std.specs.Prelude.{◌==◌, ◌||◌, codes, IsTrue}
+use Rattle.std.proofs.Common.{◌≡◌, ℕ, zero, suc, ◌+◌, ◌<◌, ◌≤◌, Bool, true, false, cond, not, List, [], ◌∷◌, ◌++◌, length, take, drop, map, Option, Some, None, refl, sym, ap, subst, ◌∙◌, arith, ◌⊎◌, inl, inr}
+use Rattle.std.specs.Prelude.{◌==◌, ◌||◌, codes}
 use Rattle.std.specs.List.{list_all}
-use Rattle.std.specs.Str.{bytes_eq}
-use Rattle.std.proofs.lemmas.Bool.{and_parts, eqb-true, or_cases, cases_Bool}
+use Rattle.std.proofs.lemmas.Bool.{eqb-true, or_cases}
 use Rattle.std.proofs.lemmas.Option.{cond_some, some_pair_parts}
 use Rattle.std.proofs.lemmas.Slice.Eq.{bytes_eq-Decides}
 use Rattle.markup_rules.specs.Bytes.{is_blank, starts_blank, run_at, after_run, place_of}
-use Rattle.markup_rules.specs.Syntax.{IsName, content_then, content_text, content_meaning, IsContent, Attribute, attribute_then, attribute_meaning, IsAttribute, attributes_then, AreAttributes, firsts, Tag, tag_attributes, IsTag}
-use Rattle.markup_rules.specs.Reading.{◌>>=◌, with_first, no_more, many, name_at, content_of, blank_at, equals_at, quoted_at, value_at, label_at, attribute_at, attributes_at, is_nil, is_slash, is_tag_end, Opening, Markup, start, empty, finish, opened, start_tag, end_tag, tag_markup}
+use Rattle.markup_rules.specs.Syntax.{IsName, Attribute, attribute_then, attribute_meaning, IsAttribute, attributes_then, AreAttributes, firsts, Tag, IsTag}
+use Rattle.markup_rules.specs.Reading.{◌>>=◌, with_first, many, name_at, content_of, blank_at, equals_at, quoted_at, value_at, label_at, attribute_at, attributes_at, is_nil, is_slash, is_tag_end, Markup, start, empty, finish, opened, start_tag, end_tag, tag_markup}
 use Rattle.markup_rules.proofs.Fuel.{many_next, many_by}
 use Rattle.markup_rules.proofs.Shorter.{attribute_shortens}
 use Rattle.markup_rules.proofs.Attributes.{attribute_shorter}
 use Rattle.markup_rules.proofs.Values.{content_append, tag_body, opening_of}
-use Rattle.markup_rules.proofs.Parts.{bind_some, same_some, run_whole, run_all, place_takes, TakesName, name_takes, TakesContent, content_takes}
+use Rattle.markup_rules.proofs.Parts.{bind_some, same_some, run_whole, run_all, place_takes, name_takes, TakesContent, content_takes}
 
 -- ---- attributes
 
@@ -217,8 +216,8 @@ attributes_cases n bytes means rest false e few rec found =
     subst (λ (ms : List Named). TakesAttributes bytes ms rest) later.2
     (with_attribute bytes first.0.0 first.0.1 later.0.0 rest (attribute_takes bytes first.0.0 first.0.1 first.1) (rec first.0.1 later.0.0 shorter whole))
   where
-  pair_found : List Named → List ℕ → Found
-  pair_found ms r = Some (ms, r)
+    pair_found : List Named → List ℕ → Found
+    pair_found ms r = Some (ms, r)
 
 attributes_to : (n : ℕ) (bytes : List ℕ) (means : List Named) (rest : List ℕ) → length bytes < n → many is_tag_end attribute_at bytes ≡ Some (means, rest) → TakesAttributes bytes means rest
 attributes_to zero bytes means rest few found = absurd (omega arith)
@@ -271,16 +270,16 @@ tag_found body name rest attributes m is are spelled end e (inl p) = record {
   form = inl (sym e ∙ ap (λ bs. which bs) (end.behind ∙ p), tag_form body name rest attributes end.blanks end.slash spelled end.spelled ∙ ap (λ s. name ++ attributes_then attributes (end.blanks ++ s)) p);
 }
   where
-  which : List ℕ → Markup
-  which bs = cond (is_nil bs) (start (record { name = name; attributes = firsts [] (map attribute_meaning attributes) })) (empty (record { name = name; attributes = firsts [] (map attribute_meaning attributes) }))
+    which : List ℕ → Markup
+    which bs = cond (is_nil bs) (start (record { name = name; attributes = firsts [] (map attribute_meaning attributes) })) (empty (record { name = name; attributes = firsts [] (map attribute_meaning attributes) }))
 tag_found body name rest attributes m is are spelled end e (inr p) = record {
   tag = record { name = name; attributes = attributes; blanks = end.blanks };
   is = record { named = is; proper = are; blank = end.blank };
   form = inr (sym e ∙ ap (λ bs. which bs) (end.behind ∙ p), tag_form body name rest attributes end.blanks end.slash spelled end.spelled ∙ ap (λ s. name ++ attributes_then attributes (end.blanks ++ s)) p);
 }
   where
-  which : List ℕ → Markup
-  which bs = cond (is_nil bs) (start (record { name = name; attributes = firsts [] (map attribute_meaning attributes) })) (empty (record { name = name; attributes = firsts [] (map attribute_meaning attributes) }))
+    which : List ℕ → Markup
+    which bs = cond (is_nil bs) (start (record { name = name; attributes = firsts [] (map attribute_meaning attributes) })) (empty (record { name = name; attributes = firsts [] (map attribute_meaning attributes) }))
 
 start_takes : (body : List ℕ) (m : Markup) → start_tag body ≡ Some m → TakesTag body m
 unfolding start_tag attributes_at

@@ -1,6 +1,6 @@
 -- What an item that is cut off says of the text, and what it was written as.
-use Rattle.std.proofs.Common.{◌≡◌, ◌≢◌, ℕ, zero, suc, ◌+◌, ◌<◌, ◌≤◌, Bool, true, false, cond, not, ◌&&◌, List, [], ◌∷◌, ◌++◌, length, take, drop, Option, Some, None, refl, sym, ap, subst, ◌∙◌, append_assoc, append-nil, arith, ◌⊎◌, inl, inr}
-use Rattle.std.specs.Prelude.{◌==◌, ◌||◌, codes, is_none, option_map, unwrap_or}
+use Rattle.std.proofs.Common.{◌≡◌, ℕ, zero, suc, ◌+◌, Bool, true, false, cond, ◌&&◌, List, [], ◌∷◌, ◌++◌, length, take, drop, Option, Some, None, refl, sym, ap, subst, ◌∙◌, append_assoc, append-nil, arith, ◌⊎◌, inl, inr}
+use Rattle.std.specs.Prelude.{◌==◌, codes, is_none, option_map, unwrap_or}
 use Rattle.std.specs.List.{list_all}
 use Rattle.std.proofs.lemmas.Bool.{and_parts, eqb-true, or_cases}
 use Rattle.std.proofs.lemmas.List.{take-append-drop, drop-drop}
@@ -8,9 +8,9 @@ use Rattle.markup_rules.specs.Bytes.{is_blank, is_text, is_doctype, begins, firs
 use Rattle.markup_rules.specs.Syntax.{IsName, Content, content_then, content_text, content_meaning, IsContent, Tag, tag_then, IsTag, end_tag_then, aside_then, IsAside, IsWithout}
 use Rattle.markup_rules.specs.Syntax as written
 use Rattle.markup_rules.specs.Reading.{◌>>=◌, Item, comment, instruction, declaration, tag, broken, unended, data_between, data_to_end, body_by, quote_after, ends_tag, tag_end, tag_before, tag_by, markup_at, data_by, item_at, Markup, start, empty, finish, aside, doctype, content, bad, content_of, if_right, tag_markup, data_markup, comment_markup, instruction_markup, declaration_markup, markup_of}
-use Rattle.markup_rules.proofs.Values.{content_append, tag_body, opening_of}
+use Rattle.markup_rules.proofs.Values.{content_append, opening_of}
 use Rattle.markup_rules.proofs.Cuts.{tag_split}
-use Rattle.markup_rules.proofs.Parts.{bind_some, same_some, place_takes, TakesContent, content_takes}
+use Rattle.markup_rules.proofs.Parts.{same_some, place_takes, TakesContent, content_takes}
 use Rattle.markup_rules.proofs.Tags.{TakesTag, TakesFinish, tag_takes}
 
 -- ---- marks
@@ -44,12 +44,13 @@ mark_step mark b bytes n m apart e is =
     subst (IsMark mark (b ∷ bytes)) (let one : suc n ≡ n + 1 = omega arith in one ∙ e)
     (record { here = is.here; before = not_before (begins mark (b ∷ take n bytes)) refl })
   where
-  none_mapped : (o : Option ℕ) → is_none o ≡ true → is_none (option_map (λ (k : ℕ). k + 1) o) ≡ true
-  none_mapped None e = refl
-  none_mapped (Some k) e = absurd cc
-  not_before : (found : Bool) → begins mark (b ∷ take n bytes) ≡ found → is_none (cond found (Some 0) (option_map (λ (k : ℕ). k + 1) (first_place (begins mark) (take n bytes)))) ≡ true
-  not_before true e = absurd (cc (begins_longer mark (b ∷ bytes) (suc n) e, apart))
-  not_before false e = none_mapped (first_place (begins mark) (take n bytes)) is.before
+    none_mapped : (o : Option ℕ) → is_none o ≡ true → is_none (option_map (λ (k : ℕ). k + 1) o) ≡ true
+    none_mapped None e = refl
+    none_mapped (Some k) e = absurd cc
+
+    not_before : (found : Bool) → begins mark (b ∷ take n bytes) ≡ found → is_none (cond found (Some 0) (option_map (λ (k : ℕ). k + 1) (first_place (begins mark) (take n bytes)))) ≡ true
+    not_before true e = absurd (cc (begins_longer mark (b ∷ bytes) (suc n) e, apart))
+    not_before false e = none_mapped (first_place (begins mark) (take n bytes)) is.before
 
 mark_cases : (mark : List ℕ) (b : ℕ) (bytes : List ℕ) (n : ℕ) (is : Bool) (later : Option ℕ) → begins mark (b ∷ bytes) ≡ is → first_place (begins mark) bytes ≡ later → ((k : ℕ) → first_place (begins mark) bytes ≡ Some k → IsMark mark bytes k)
     → cond is (Some 0) (option_map (λ (k : ℕ). k + 1) later) ≡ Some n → IsMark mark (b ∷ bytes) n
@@ -80,10 +81,10 @@ end_cases : (quote : Option ℕ) (b : ℕ) (bytes : List ℕ) (n : ℕ) (is : Bo
     → cond is (Some 0) (option_map (λ (k : ℕ). k + 1) later) ≡ Some n → IsEnd (b ∷ bytes) n
 end_cases quote b bytes n true later e here rec found = subst (IsEnd (b ∷ bytes)) (same_some 0 n found) (at_front quote b bytes e)
   where
-  at_front : (quote : Option ℕ) (b : ℕ) (bytes : List ℕ) → ends_tag quote b ≡ true → IsEnd (b ∷ bytes) 0
-  at_front quote b bytes e c rest same apart =
-      let first : b ≡ c = cc same in
-      sym first ∙ ends_greater quote b e (ap (λ (x : ℕ). x == 60) first ∙ apart)
+    at_front : (quote : Option ℕ) (b : ℕ) (bytes : List ℕ) → ends_tag quote b ≡ true → IsEnd (b ∷ bytes) 0
+    at_front quote b bytes e c rest same apart =
+        let first : b ≡ c = cc same in
+        sym first ∙ ends_greater quote b e (ap (λ (x : ℕ). x == 60) first ∙ apart)
 end_cases quote b bytes n false (Some k) e here rec found =
     let next : suc k ≡ n = (let one : suc k ≡ k + 1 = omega arith in one ∙ same_some (k + 1) n found) in
     subst (IsEnd (b ∷ bytes)) next (rec k here)

@@ -1,13 +1,12 @@
 -- What is written in front of something is read in front of it: content, attributes and tags.
-use Rattle.std.proofs.Common.{◌≡◌, ◌≢◌, ℕ, zero, suc, ◌+◌, ◌<◌, ◌≤◌, Bool, true, false, cond, not, ◌&&◌, List, [], ◌∷◌, ◌++◌, length, take, drop, map, Option, Some, None, refl, sym, ap, subst, ◌∙◌, append_assoc, append-nil, arith, ◌⊎◌, inl, inr}
-use Rattle.std.specs.Prelude.{◌==◌, ◌||◌, nat_lt, IsTrue, codes, encode_utf8, unwrap_or}
+use Rattle.std.proofs.Common.{◌≡◌, ℕ, ◌<◌, Bool, true, false, not, List, [], ◌∷◌, ◌++◌, length, map, Option, Some, None, refl, sym, ap, subst, ◌∙◌, append_assoc, append-nil, arith, ◌⊎◌, inl, inr}
+use Rattle.std.specs.Prelude.{◌==◌, ◌||◌, encode_utf8, unwrap_or}
 use Rattle.std.specs.List.{list_all}
-use Rattle.std.specs.Str.{is_utf8, bytes_eq}
-use Rattle.std.proofs.lemmas.Bool.{and_parts, and_from, lt-ltb, eqb-true, eq-eqb, cond-true, cond-false, or_left, or_right}
+use Rattle.std.proofs.lemmas.Bool.{and_parts, lt-ltb, eq-eqb, or_left, or_right}
 use Rattle.std.proofs.lemmas.Bool.Decides.{nat_tests}
-use Rattle.markup_rules.specs.Bytes.{is_blank, is_plain, is_name_start, is_name_byte, starts_name, starts_blank, run_at, after_run, place_of}
-use Rattle.markup_rules.specs.Syntax.{IsName, AreBlanks, Reference, reference_body, character, IsReference, Content, run, then_reference, content_then, content_text, content_meaning, IsRun, IsContent, Attribute, attribute_then, attribute_meaning, IsAttribute, attributes_then, AreAttributes, firsts, Tag, tag_attributes, IsTag}
-use Rattle.markup_rules.specs.Reading.{◌>>=◌, with_first, no_more, many, name_at, reference_at, run_of, piece_at, content_of, blank_at, equals_at, quoted_at, value_at, label_at, attribute_at, attributes_at, is_nil, is_slash, is_tag_end, Opening, Markup, start, empty, finish, bad, opened, start_tag, end_tag, tag_markup, markup_of, tag}
+use Rattle.markup_rules.specs.Bytes.{is_blank, is_plain, is_name_start, is_name_byte, starts_name, starts_blank}
+use Rattle.markup_rules.specs.Syntax.{IsName, Reference, reference_body, character, IsReference, Content, run, then_reference, content_then, content_text, content_meaning, IsRun, IsContent, Attribute, attribute_then, attribute_meaning, IsAttribute, attributes_then, AreAttributes, Tag, tag_attributes, IsTag}
+use Rattle.markup_rules.specs.Reading.{◌>>=◌, many, run_of, piece_at, content_of, blank_at, equals_at, quoted_at, value_at, label_at, attribute_at, attributes_at, is_nil, is_slash, is_tag_end, Opening, start, empty, finish, bad, opened, start_tag, end_tag, tag_markup, markup_of, tag}
 use Rattle.markup_rules.proofs.Fuel.{many_next, many_by}
 use Rattle.markup_rules.proofs.Shorter.{attribute_shortens}
 use Rattle.markup_rules.proofs.Contents.{content_by, content_next, content_end}
@@ -121,8 +120,12 @@ unfolding label_at equals_at
 label_again a rest is =
     let behind = a.before_equals ++ label_rest a rest in
     let name = name_again a.name behind is.named (blanks_stop_name a.before_equals (label_rest a rest) is.blank_before_equals refl) in
-    rw (blank_again a.before (a.name ++ behind) is.apart is.blank_before (name_stops_blanks a.name behind is.named.begun), name, after_run_again is_blank a.before_equals (label_rest a rest) is.blank_before_equals refl,
-    after_run_again is_blank a.after_equals (a.quote ∷ content_then a.value (a.quote ∷ rest)) is.blank_after_equals (quote_no_blank a.quote is.quoted)) refl
+    rw (
+      blank_again a.before (a.name ++ behind) is.apart is.blank_before (name_stops_blanks a.name behind is.named.begun),
+      name,
+      after_run_again is_blank a.before_equals (label_rest a rest) is.blank_before_equals refl,
+      after_run_again is_blank a.after_equals (a.quote ∷ content_then a.value (a.quote ∷ rest)) is.blank_after_equals (quote_no_blank a.quote is.quoted),
+    ) refl
 
 attribute_again : (a : Attribute) (rest : List ℕ) → IsAttribute a → attribute_at (attribute_then a rest) ≡ Some (attribute_meaning a, rest)
 unfolding attribute_at
@@ -169,9 +172,9 @@ attributes_stop : (attributes : List Attribute) (blanks slash : List ℕ) → Ar
 attributes_stop [] blanks slash are blank end = blanks_stop_name blanks slash blank end.no_name
 attributes_stop (a ∷ attributes) blanks slash are blank end = before_stops a.before (a.name ++ (a.before_equals ++ label_rest a (attributes_then attributes (blanks ++ slash)))) are.0.apart
   where
-  before_stops : (before rest : List ℕ) → starts_blank before ≡ true → stops is_name_byte (before ++ rest) ≡ true
-  before_stops [] rest begun = absurd cc
-  before_stops (b ∷ before) rest begun = blank_no_name b begun
+    before_stops : (before rest : List ℕ) → starts_blank before ≡ true → stops is_name_byte (before ++ rest) ≡ true
+    before_stops [] rest begun = absurd cc
+    before_stops (b ∷ before) rest begun = blank_no_name b begun
 
 start_again : (t : Tag) (slash : List ℕ) → IsTag t → IsEnd slash → start_tag (tag_body t slash) ≡ Some (opened (opening_of t) (t.blanks ++ slash))
 unfolding start_tag attributes_at

@@ -1,27 +1,25 @@
 -- What is written is read: whole texts.
-use Rattle.std.proofs.Common.{◌≡◌, ℕ, zero, suc, ◌+◌, ◌-◌, ◌<◌, ◌≤◌, Bool, true, false, cond, not, ◌&&◌, List, [], ◌∷◌, ◌++◌, length, get_or, drop, Option, Some, None, Ok, refl, sym, ap, subst, ◌∙◌, append_assoc, append-nil, arith, ◌⊎◌, inl, inr}
-use Rattle.std.specs.Prelude.{◌==◌, ◌||◌, nat_le, codes, Result, IsAscii}
+use Rattle.std.proofs.Common.{◌≡◌, ℕ, ◌+◌, ◌-◌, ◌<◌, Bool, true, false, not, ◌&&◌, List, [], ◌∷◌, ◌++◌, length, get_or, Option, Some, None, Ok, refl, sym, ap, subst, ◌∙◌, append-nil, arith, ◌⊎◌, inl, inr}
+use Rattle.std.specs.Prelude.{◌==◌, codes, IsAscii}
 use Rattle.std.specs.List.{list_all}
-use Rattle.std.specs.Str.{IsUtf8, is_utf8}
 use Rattle.std.proofs.lemmas.Bool.{and_parts, and_left, cases_lt}
 use Rattle.std.proofs.lemmas.Bool.Decides.{nat_tests}
 use Rattle.std.proofs.lemmas.List.{get_or_past, length-append}
 use Rattle.std.proofs.lemmas.List.Sums.{AllPass-from_list_all}
 use Rattle.std.proofs.lemmas.Str.{IsUtf8-from_ascii, is_utf8-from_IsUtf8}
-use Rattle.outside.specs.declared.fault.Spot.{Spot}
 use Rattle.markup_rules.specs.Bytes.{is_blank, is_plain, is_doctype, begins, starts_name}
 use Rattle.markup_rules.specs.Tree.{Tree, node, trees_of}
 use Rattle.markup_rules.specs.Syntax.{Content, run, content_text, content_meaning, IsContent, IsRun, Tag, tag_then, tag_attributes, IsTag, end_tag_then, aside_then, IsAside, Inside, inside_then, IsInside, own_text, children_from, Outside, white, and_aside, outside_then, IsOutside, Prolog, undeclared, declared, prolog_then, IsProlog, Root, empty_root, full_root, root_then, IsRoot, root_tree, order_mark, IsTree}
 use Rattle.markup_rules.specs.Syntax as written
-use Rattle.markup_rules.specs.Reading.{Item, declaration, data_between, data_to_end, item_at, opens, Markup, doctype, content, content_of, markup_of, is_nil}
+use Rattle.markup_rules.specs.Reading.{declaration, data_between, data_to_end, opens, doctype, content, content_of, markup_of}
 use Rattle.markup_rules.specs.Faults.{after_mark}
-use Rattle.markup_rules.specs.Outcome.{Frame, State, initial, begun, ended, adopted, outcome}
+use Rattle.markup_rules.specs.Outcome.{initial, begun, outcome}
 use Rattle.markup_rules.proofs.Steps.{rest_from, rest_begins, rest_done}
 use Rattle.markup_rules.proofs.Values.{content_again, opening_of}
 use Rattle.markup_rules.proofs.Fronts.{all_in}
-use Rattle.markup_rules.proofs.Asides.{doctype_cut, doctype_again, data_cut, last_cut, content_markup, data_end_markup}
-use Rattle.markup_rules.proofs.Lengths.{tag_length, end_tag_length, inside_length, prolog_length}
-use Rattle.markup_rules.proofs.Complete.{Cut, cut, state, take_item, aside_step, aside_tail, aside_front, start_step, empty_step, finish_step, grown, inside_reads}
+use Rattle.markup_rules.proofs.Asides.{doctype_cut, doctype_again, data_cut, last_cut, data_end_markup}
+use Rattle.markup_rules.proofs.Lengths.{tag_length, prolog_length}
+use Rattle.markup_rules.proofs.Complete.{state, take_item, aside_step, aside_tail, aside_front, start_step, empty_step, finish_step, grown, inside_reads}
 
 -- ---- blanks
 
@@ -67,8 +65,8 @@ blanks_step total root is_declared (b ∷ blanks) rest blank =
     take_item total (state [] root is_declared) b (blanks ++ 60 ∷ rest) (60 ∷ rest) (data_between (b ∷ blanks)) (content true (b ∷ blanks)) (data_cut b blanks rest (all_in is_blank (λ b. not (b == 60)) blank_no_less (b ∷ blanks) blank))
     (record { is = data_markup_again (b ∷ blanks) blank; shallow = no_less_first b blanks (blanks ++ 60 ∷ rest) false blank; has_end = refl; allowed = refl })
   where
-  data_markup_again : (bytes : List ℕ) → list_all is_blank bytes ≡ true → markup_of (data_between bytes) ≡ content true bytes
-  data_markup_again bytes blank = (data_end_markup bytes bytes (blanks_content bytes blank)).0 ∙ ap (λ b. content b bytes) blank
+    data_markup_again : (bytes : List ℕ) → list_all is_blank bytes ≡ true → markup_of (data_between bytes) ≡ content true bytes
+    data_markup_again bytes blank = (data_end_markup bytes bytes (blanks_content bytes blank)).0 ∙ ap (λ b. content b bytes) blank
 
 last_step : (total : ℕ) (root : Option Tree) (is_declared : Bool) (blanks : List ℕ) → list_all is_blank blanks ≡ true → rest_from total (state [] root is_declared) (blanks ++ []) ≡ rest_from total (state [] root is_declared) []
 last_step total root is_declared [] blank = refl
@@ -135,8 +133,8 @@ blanks_no_mark : (blanks rest : List ℕ) → list_all is_blank blanks ≡ true 
 blanks_no_mark [] rest blank clear = clear
 blanks_no_mark (b ∷ blanks) rest blank clear = and_left (0xEF == b) (begins (0xBB ∷ 0xBF ∷ []) (blanks ++ rest)) (blank_no_mark b (and_parts (is_blank b) (list_all is_blank blanks) blank).0)
   where
-  blank_no_mark : (b : ℕ) → is_blank b ≡ true → (0xEF == b) ≡ false
-  blank_no_mark b blank = grind (arith, nat_tests)
+    blank_no_mark : (b : ℕ) → is_blank b ≡ true → (0xEF == b) ≡ false
+    blank_no_mark b blank = grind (arith, nat_tests)
 
 outside_no_mark : (o : Outside) (rest : List ℕ) → IsOutside o → no_mark rest → no_mark (outside_then o rest)
 outside_no_mark (white blanks) rest is clear = blanks_no_mark blanks rest is clear

@@ -1,5 +1,5 @@
 -- What the reading of a text comes to, item by item, with the elements that are open.
-use Rattle.std.specs.Prelude.{ℕ, ◌-◌, Bool, true, false, List, [], ◌∷◌, ◌++◌, length, map, Option, Some, None, is_some, Result, Ok, Err, if◌then◌else◌}
+use Rattle.std.specs.Prelude.{ℕ, ◌-◌, Bool, true, false, List, [], ◌∷◌, ◌++◌, length, map, Option, Some, None, is_some, Result, Ok, Err}
 use Rattle.outside.specs.declared.fault.Kind.TheVariants.{Unfinished}
 use Rattle.outside.specs.declared.fault.Spot.{Spot}
 use Rattle.outside.specs.Reading.{◌>>=◌}

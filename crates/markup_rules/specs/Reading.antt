@@ -1,5 +1,5 @@
 -- Source texts read from left to right: what stands at the front, piece by piece, and what follows it.
-use Rattle.std.specs.Prelude.{◌≡◌, ℕ, zero, suc, ◌+◌, Bool, true, false, not, ◌&&◌, ◌||◌, List, [], ◌∷◌, ◌++◌, length, take, drop, codes, Option, Some, None, ◌==◌, nat_lt, encode_utf8, is_none, unwrap_or, option_map, if◌then◌else◌}
+use Rattle.std.specs.Prelude.{◌≡◌, ℕ, zero, suc, ◌+◌, Bool, true, false, ◌&&◌, ◌||◌, List, [], ◌∷◌, length, take, drop, codes, Option, Some, None, ◌==◌, nat_lt, encode_utf8, is_none, unwrap_or, option_map, if◌then◌else◌}
 use Rattle.std.specs.List.{list_all, concat}
 use Rattle.std.specs.Str.{is_utf8, bytes_eq}
 use Rattle.std.specs.Str.Parse.{digits_value}

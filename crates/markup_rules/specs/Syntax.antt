@@ -1,7 +1,7 @@
 -- Source texts by what is written: XML 1.0 without CDATA sections, entities of its own and an internal
 -- document type. Each form is a type, with its text, its meaning and its conditions. A text is given
 -- with what follows it: `name_then x rest` is the text of x and then rest.
-use Rattle.std.specs.Prelude.{◌≡◌, ℕ, zero, suc, ◌+◌, ◌≤◌, Bool, true, not, ◌⊎◌, List, [], ◌∷◌, ◌++◌, length, codes, ◌==◌, IsTrue, Option, None, map, encode_utf8, is_none, if◌then◌else◌}
+use Rattle.std.specs.Prelude.{◌≡◌, ℕ, zero, suc, ◌+◌, ◌≤◌, Bool, not, ◌⊎◌, List, [], ◌∷◌, ◌++◌, length, codes, ◌==◌, IsTrue, map, encode_utf8, is_none, if◌then◌else◌}
 use Rattle.std.specs.List.{list_all, list_any}
 use Rattle.std.specs.Str.{is_utf8, bytes_eq}
 use Rattle.std.specs.Str.Parse.{digits_value}
@@ -215,7 +215,7 @@ children_from at (then_child c tag inside blanks more) =
     let here = at + length (content_text c) in
     let within = here + length (tag_then tag (codes ">")) in
     node tag.name (tag_attributes tag) (trees_of (children_from within inside)) (own_text inside) here
-        ∷ children_from (within + length (inside_then inside (end_tag_then tag.name blanks []))) more
+    ∷ children_from (within + length (inside_then inside (end_tag_then tag.name blanks []))) more
 
 -- ---- what stands round the root element
 

@@ -7,6 +7,7 @@ use Rattle.std.specs.Str.{bytes_eq}
 mutual
   pub data Tree : Type 0 where
     node : (name : List ℕ) (attributes : List (List ℕ × List ℕ)) (children : Trees) (text : List ℕ) (at : ℕ) → Tree
+
   pub data Trees : Type 0 where
     no_trees : Trees
     and_trees : (first : Tree) (later : Trees) → Trees
