@@ -1,7 +1,7 @@
 -- The answer of memchr is the first place of a byte.
-use Rattle.std.proofs.Common.{◌≡◌, ℕ, zero, suc, ◌+◌, ◌<◌, ◌≤◌, Bool, true, false, cond, List, [], ◌∷◌, length, get_or, Option, Some, None, refl, sym, ap, ◌∙◌, arith}
+use Rattle.std.proofs.Common.{◌≡◌, ℕ, zero, suc, ◌+◌, ◌<◌, Bool, true, false, cond, List, [], ◌∷◌, length, Option, Some, None, refl, sym, ap, arith}
 use Rattle.std.specs.Prelude.{option_map, ◌==◌, IfSome}
-use Rattle.memchr.specs.Find.{IsFirstByte, Passes, Nowhere, NoneBefore, is_byte}
+use Rattle.memchr.specs.Find.{IsFirstByte, Passes, Nowhere, is_byte}
 use Rattle.markup_rules.specs.Bytes.{place_of}
 
 none_cases : (byte b : ℕ) (bytes : List ℕ) (is : Bool) → (b == byte) ≡ is → Nowhere (Passes (is_byte byte) (b ∷ bytes)) 0 (suc (length bytes)) → place_of byte bytes ≡ None → cond is (Some 0) (option_map (λ n. n + 1) (place_of byte bytes)) ≡ None

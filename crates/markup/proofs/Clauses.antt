@@ -4,7 +4,7 @@ use Rattle.std.specs.Prelude.{Result, IfOk, IfErr}
 use Rattle.outside.specs.declared.fault.Spot.{Spot}
 use Rattle.outside.specs.declared.fault.Stop.{Stop}
 use Rattle.outside.specs.declared.fault.Stop.TheVariants.{At, NoMemory}
-use Rattle.outside.specs.Reading.{Fails, Gives}
+use Rattle.outside.specs.Reading.{Gives}
 use Rattle.markup_rules.specs.Tree.{Tree}
 use Rattle.markup_rules.specs.Syntax.{IsTree}
 use Rattle.markup_rules.specs.Faults.{fault_of}

@@ -1,5 +1,5 @@
 -- One item of the loop over a text.
-use Rattle.std.proofs.Common.{◌≡◌, ℕ, ◌<◌, List, [], ◌∷◌, length, Ok, Err, refl, sym, ap, ◌∙◌, arith}
+use Rattle.std.proofs.Common.{◌≡◌, ℕ, ◌<◌, List, length, Ok, sym, ap, ◌∙◌, arith}
 use Rattle.std.specs.Prelude.{Result}
 use Rattle.outside.specs.declared.fault.Spot.{Spot}
 use Rattle.outside.specs.declared.fault.Stop.{Stop}

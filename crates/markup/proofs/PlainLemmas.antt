@@ -1,5 +1,5 @@
 -- The tree of an element, one level deep.
-use Rattle.std.proofs.Common.{◌≡◌, ℕ, List, [], ◌∷◌, map, refl, ap, ◌∙◌}
+use Rattle.std.proofs.Common.{◌≡◌, List, [], ◌∷◌, map, refl, ap, ◌∙◌}
 use Rattle.markup.specs.declared.element.Element.{Element}
 use Rattle.markup.specs.declared.element.Element.TheOpen.{Element-F}
 use Rattle.markup.specs.declared.element.Element.TheFolds.{fold_out-Element, fold-roll-Element}

@@ -34,13 +34,7 @@ fn equals_at(bytes: &[u8]) -> Option<&[u8]>
 {
     match bytes {
         [] => None,
-        [byte, rest @ ..] => {
-            if *byte == b'=' {
-                Some(rest)
-            } else {
-                None
-            }
-        }
+        [byte, rest @ ..] => { if *byte == b'=' { Some(rest) } else { None } }
     }
 }
 

@@ -70,13 +70,7 @@ fn quote_after(quote: Option<u8>, byte: u8) -> Option<u8>
                 None
             }
         }
-        Some(open) => {
-            if byte == open {
-                None
-            } else {
-                Some(open)
-            }
-        }
+        Some(open) => { if byte == open { None } else { Some(open) } }
     }
 }
 

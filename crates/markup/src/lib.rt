@@ -9,8 +9,8 @@ mod element;
 mod items;
 mod markup;
 mod names;
-mod searches;
 mod reader;
+mod searches;
 mod state;
 
 pub use element::Element;

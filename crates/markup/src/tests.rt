@@ -28,14 +28,17 @@ const TREES: [(&str, &str); 24] = [
     ("<a><!--x-->1<?y?>2</a>", "a@0|12|{}"),
     ("<\u{e4}:b.-1/>", "\u{e4}:b.-1@0||{}"),
     ("<_/>", "_@0||{}"),
-    ("<a>\u{7f}\u{fffe}&#xFFFE;</a>", "a@0|\u{7f}\u{fffe}\u{fffe}|{}"),
     (
-        "<a>&#x10FFFF;&#000000000000065;</a>",
-        "a@0|\u{10ffff}A|{}",
+        "<a>\u{7f}\u{fffe}&#xFFFE;</a>",
+        "a@0|\u{7f}\u{fffe}\u{fffe}|{}",
     ),
+    ("<a>&#x10FFFF;&#000000000000065;</a>", "a@0|\u{10ffff}A|{}"),
     ("<a> \r\n</a>", "a@0| \r\n|{}"),
     ("<a b=''><a b='/'/></a>", "a@0 b=||{a@8 b=/||{}}"),
-    ("<a><b></b><b><c/></b></a>", "a@0||{b@3||{}b@10||{c@13||{}}}"),
+    (
+        "<a><b></b><b><c/></b></a>",
+        "a@0||{b@3||{}b@10||{c@13||{}}}",
+    ),
 ];
 
 /// Texts without a tree, with the one fault of each and its place.
@@ -111,7 +114,10 @@ const FAULTS: [(&[u8], Kind, u64); 66] = [
 /// Right texts of which each front from a length on lacks its end, with every form of item. A front of the
 /// byte order mark isn't one.
 const WHOLE: [(usize, &str); 3] = [
-    (0, "<!--c--><?d?> <!DOCTYPE a \"b\"><a b=\"1\" c = '>'>x&amp;<!--c--><?d?><e f='/'/></a >"),
+    (
+        0,
+        "<!--c--><?d?> <!DOCTYPE a \"b\"><a b=\"1\" c = '>'>x&amp;<!--c--><?d?><e f='/'/></a >",
+    ),
     (3, "\u{feff}<a>\u{e4}&#x41;</a>"),
     (0, "<a><b><c/></b></a>"),
 ];

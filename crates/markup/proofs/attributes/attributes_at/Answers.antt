@@ -1,4 +1,4 @@
-use Rattle.std.proofs.Common.{◌≡◌, ◌∙◌, sym, ap, false, true, Some, None}
+use Rattle.std.proofs.Common.{◌≡◌, ◌∙◌, sym, ap, Some, None}
 use Rattle.markup_rules.specs.Reading.{attribute_at}
 use Rattle.markup_rules.proofs.Attributes.{attributes_begin, attributes_behind, attributes_done, attributes_none, attributes_step, attribute_shorter}
 use Rattle.markup.specs.Views.{attribute_view}

@@ -1,4 +1,4 @@
-use Rattle.std.proofs.Common.{◌≡◌, ◌∙◌, sym, ap, false, length, ◌++◌, rules, arith}
+use Rattle.std.proofs.Common.{◌≡◌, ◌∙◌, sym, ap, false, length, rules}
 use Rattle.std.specs.Prelude.{string_bytes}
 use Rattle.markup_rules.specs.Reading.{is_nil}
 use Rattle.markup_rules.proofs.Contents.{content_step, content_none, content_done, content_shorter, content_behind, some_left}
@@ -20,6 +20,6 @@ loop-rest-preserved c =
     (content_step (string_bytes c.loop-rest.text) c.loop-rest.rest.now (piece_bytes c.in-Some.piece) c.in-Some.after.now some c.in-Some.ensures ∙ c.loop-rest.invariant)
 
 pub returns : goal.returns
-returns c = 
+returns c =
     let none : length c.loop-rest.rest.now ≡ 0 = search rules in
     sym c.loop-rest.invariant ∙ content_done (string_bytes c.loop-rest.text) c.loop-rest.rest.now none

@@ -1,4 +1,4 @@
-use Rattle.std.proofs.Common.{◌≡◌, ◌++◌, length}
+use Rattle.std.proofs.Common.{◌≡◌, length}
 use Rattle.std.specs.Prelude.{string_bytes}
 use Rattle.markup_rules.specs.Reading.{content_of}
 use Rattle.markup_rules.proofs.Contents.{content_behind}

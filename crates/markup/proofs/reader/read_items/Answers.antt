@@ -1,5 +1,5 @@
 use Rattle.std.proofs.Common.{◌≡◌, ◌<◌, ◌∙◌, ◌≤◌, sym, ap, subst, length, rules, arith}
-use Rattle.markup_rules.specs.Outcome.{initial, outcome, root_or_fault}
+use Rattle.markup_rules.specs.Outcome.{initial, outcome}
 use Rattle.outside.specs.Reading.{Gives}
 use Rattle.markup.specs.Plain.{plain}
 use Rattle.markup_rules.proofs.Steps.{rest_from, rest_begins, rest_done}
@@ -9,9 +9,10 @@ use Rattle.markup.specs.States.{state_of}
 use Rattle.markup.proofs.reader.read_items.Goals as goal
 
 pub loop-rest-init : goal.loop-rest-init
-loop-rest-init c =
-    (c.after_mark-rest.ensures.within,
-      ap (λ state. rest_from (length c.args.text.now) state c.after_mark-rest.result.now) c.new-state.ensures ∙ (ap (rest_from (length c.args.text.now) initial) c.after_mark-rest.ensures.value ∙ rest_begins c.args.text.now))
+loop-rest-init c = (
+  c.after_mark-rest.ensures.within,
+  ap (λ state. rest_from (length c.args.text.now) state c.after_mark-rest.result.now) c.new-state.ensures ∙ (ap (rest_from (length c.args.text.now) initial) c.after_mark-rest.ensures.value ∙ rest_begins c.args.text.now),
+)
 
 pub loop-rest-preserved : goal.loop-rest-preserved
 loop-rest-preserved c =
