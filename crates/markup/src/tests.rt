@@ -129,7 +129,7 @@ fn show(element: &Element, out: &mut String) -> Result<(), AllocError> {
         write!(out, " {}={}", key.as_str(), value.as_str())?;
     }
     write!(out, "|{}|{{", element.text())?;
-    for child in element.children() {
+    for child in &element.children {
         show(child, out)?;
     }
     out.push('}')
