@@ -1,0 +1,4 @@
+pub mod ByteSearch
+mod Clauses
+pub mod Loops
+pub mod PlainLemmas

@@ -1,0 +1,27 @@
+use Rattle.std.proofs.Common.{◌≡◌, ◌∙◌, sym, ap, Some, None}
+use Rattle.markup_rules.specs.Reading.{attribute_at}
+use Rattle.markup_rules.proofs.Attributes.{attributes_begin, attributes_behind, attributes_done, attributes_none, attributes_step, attribute_shorter}
+use Rattle.markup.specs.Views.{attribute_view}
+use Rattle.markup.proofs.attributes.attributes_at.Goals as goal
+
+pub loop-alloc-init : goal.loop-alloc-init
+loop-alloc-init c = ap (λ kept. attributes_behind kept c.args.bytes.now) c.new-kept.ensures ∙ attributes_begin c.args.bytes.now
+
+pub returns-in_default : goal.returns-in_default
+returns-in_default c =
+    let none : attribute_at c.loop-alloc.rest.now ≡ None = rw c.in_default.is at c.in_ok-attribute.ensures in
+    sym c.loop-alloc.invariant ∙ attributes_none c.loop-alloc.kept c.loop-alloc.rest.now (sym c.is_tag_end.ensures ∙ c.loop-alloc-test.true) none
+
+pub loop-alloc-smaller : goal.loop-alloc-smaller
+loop-alloc-smaller c =
+    let found : attribute_at c.loop-alloc.rest.now ≡ Some (attribute_view c.in-Some.attribute, c.in-Some.after.now) = rw c.in-Some.is at c.in_ok-attribute.ensures in
+    attribute_shorter c.loop-alloc.rest.now (attribute_view c.in-Some.attribute) c.in-Some.after.now found
+
+pub loop-alloc-preserved : goal.loop-alloc-preserved
+loop-alloc-preserved c =
+    let found : attribute_at c.loop-alloc.rest.now ≡ Some (attribute_view c.in-Some.attribute, c.in-Some.after.now) = rw c.in-Some.is at c.in_ok-attribute.ensures in
+    ap (λ kept. attributes_behind kept c.in-Some.after.now) c.in_ok-push_first.ensures ∙
+    (attributes_step c.loop-alloc.kept c.loop-alloc.rest.now (attribute_view c.in-Some.attribute) c.in-Some.after.now (sym c.is_tag_end.ensures ∙ c.loop-alloc-test.true) found ∙ c.loop-alloc.invariant)
+
+pub returns : goal.returns
+returns c = sym c.loop-alloc.invariant ∙ attributes_done c.loop-alloc.kept c.loop-alloc.rest.now (sym c.is_tag_end.ensures ∙ c.loop-alloc-test.false)

@@ -1,0 +1,32 @@
+-- What a reader that is under way stands for.
+use Rattle.std.specs.Prelude.{◌≡◌, ℕ, List, reverse, map, option_map, string_bytes, length, Some}
+use Rattle.outside.specs.declared.fault.Spot.{Spot}
+use Rattle.outside.specs.declared.fault.Stop.{Stop}
+use Rattle.outside.specs.declared.fault.Stop.TheVariants.{At, NoMemory}
+use Rattle.markup_rules.specs.Outcome as rules
+use Rattle.markup_rules.specs.Faults.{fault_of}
+use Rattle.markup_rules.specs.Reading.{Entry, Item, opens}
+use Rattle.markup.specs.Plain.{plain}
+use Rattle.markup.specs.declared.state.Open.{Open}
+use Rattle.markup.specs.declared.state.State.{State}
+
+abbrev pub frame_of : Open → rules.Frame
+frame_of o = record { name = o.name; attributes = o.attributes; children = map plain o.children.items; text = string_bytes o.text; at = o.at }
+
+-- the innermost element is the last of the list
+abbrev pub state_of : State → rules.State
+state_of s = record { frames = reverse (map frame_of s.open.items); root = option_map plain s.root; declared = s.is_declared }
+
+-- want of memory is free, and a fault is this one
+abbrev pub IsStop : Stop → Spot → Type 0
+IsStop NoMemory fault = Unit {0}
+IsStop (At found) fault = found ≡ fault
+
+-- the item at the front of what is left of a text
+abbrev pub entry_of : List ℕ → Item → Entry
+entry_of rest item = record { left = length rest; opening = opens rest; item = item }
+
+-- want of memory is free, and a fault is the first one of the text by items
+abbrev pub IsFault : List ℕ → Stop → Type 0
+IsFault text NoMemory = Unit {0}
+IsFault text (At fault) = fault_of text ≡ Some fault

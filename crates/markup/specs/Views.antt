@@ -1,0 +1,42 @@
+-- What the values that code holds stand for.
+use Rattle.std.specs.Prelude.{ℕ, List, encode_utf8, string_bytes}
+use Rattle.markup.specs.declared.attributes.Attribute.{Attribute}
+use Rattle.markup_rules.specs.Reading as rules
+use Rattle.markup_rules.specs.Reading.{comment, instruction, declaration, tag, broken, unended, data_between, data_to_end}
+use Rattle.markup.specs.declared.items.Item.{Item}
+use Rattle.markup.specs.declared.items.Item.TheVariants.{Comment, Instruction, Declaration, Tag, Broken, Unended, DataBetween, DataToEnd}
+use Rattle.markup_rules.specs.Reading.{start, empty, finish, aside, doctype, content, bad}
+use Rattle.markup.specs.declared.markup.Opening.{Opening}
+use Rattle.markup.specs.declared.markup.Markup.{Markup}
+use Rattle.markup.specs.declared.markup.Markup.TheVariants.{Start, Empty, Finish, Aside, Doctype, Content, Bad}
+use Rattle.markup.specs.declared.content.Piece.{Piece}
+use Rattle.markup.specs.declared.content.Piece.TheVariants.{Run, Character}
+
+abbrev pub piece_bytes : Piece → List ℕ
+piece_bytes (Run text) = text.now
+piece_bytes (Character c) = encode_utf8 c
+
+abbrev pub attribute_view : Attribute → List ℕ × List ℕ
+attribute_view a = (a.name.now, string_bytes a.value)
+
+abbrev pub item_view : Item → rules.Item
+item_view (Comment body) = comment body.now
+item_view (Instruction body) = instruction body.now
+item_view (Declaration body) = declaration body.now
+item_view (Tag body) = tag body.now
+item_view Broken = broken
+item_view Unended = unended
+item_view (DataBetween bytes) = data_between bytes.now
+item_view (DataToEnd bytes) = data_to_end bytes.now
+
+abbrev pub opening_view : Opening → rules.Opening
+opening_view o = record { name = o.name; attributes = o.attributes }
+
+abbrev pub markup_view : Markup → rules.Markup
+markup_view (Start opening) = start (opening_view opening)
+markup_view (Empty opening) = empty (opening_view opening)
+markup_view (Finish name) = finish name.now
+markup_view Aside = aside
+markup_view Doctype = doctype
+markup_view (Content is_blank text) = content is_blank (string_bytes text)
+markup_view Bad = bad

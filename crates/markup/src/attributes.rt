@@ -1,0 +1,165 @@
+ghost use Rattle.std.specs.Prelude.{◌≡◌, ◌++◌, [], ◌∷◌, map, IfOk, OnOk, string_bytes, option_map};
+ghost use Rattle.std.specs.List.{list_any};
+ghost use Rattle.std.specs.Str.{bytes_eq};
+ghost use Rattle.markup_rules.specs.Syntax.{firsts};
+ghost use Rattle.markup_rules.specs.Reading as rules;
+ghost use Rattle.markup_rules.specs.Reading.{Agrees};
+ghost use Rattle.markup_rules.specs.Bytes.{after_run};
+ghost use Rattle.markup_rules.proofs.Attributes.{with_attribute};
+ghost use Rattle.markup.specs.Views.{attribute_view};
+
+use crate::bytes::{after_blanks, starts_blank};
+use crate::content::content_of;
+use crate::names::name_at;
+use crate::searches::place_of;
+use outside::{Name, NoMemory, Seq};
+use std::alloc::Global;
+
+/// What follows the blanks at the front, one at least.
+#[tactic(auto, unfolding(markup_rules::specs::Reading::blank_at))]
+fn blank_at(bytes: &[u8]) -> Option<&[u8]>
+    ensures { Agrees (λ rest. rest.now) result (rules.blank_at bytes.now) }
+{
+    if starts_blank(bytes) {
+        Some(after_blanks(bytes))
+    } else {
+        None
+    }
+}
+
+/// What follows the `=` at the front.
+#[tactic(auto, unfolding(markup_rules::specs::Reading::equals_at))]
+fn equals_at(bytes: &[u8]) -> Option<&[u8]>
+    ensures { Agrees (λ rest. rest.now) result (rules.equals_at bytes.now) }
+{
+    match bytes {
+        [] => None,
+        [byte, rest @ ..] => { if *byte == b'=' { Some(rest) } else { None } }
+    }
+}
+
+/// What stands between the quote at the front and the next equal one, and what follows that.
+#[tactic(auto, unfolding(markup_rules::specs::Reading::quoted_at))]
+fn quoted_at(bytes: &[u8]) -> Option<(&[u8], &[u8])>
+    ensures { Agrees (λ found. (found.0.now, found.1.now)) result (rules.quoted_at bytes.now) }
+{
+    match bytes {
+        [] => None,
+        [quote, rest @ ..] => {
+            if *quote == b'"' || *quote == b'\'' {
+                let end = place_of(*quote, rest)?;
+                Some((&rest[..end], &rest[end + 1..]))
+            } else {
+                None
+            }
+        }
+    }
+}
+
+/// The value between quotes at the front, and what follows it.
+#[tactic(auto, unfolding(markup_rules::specs::Reading::value_at))]
+fn value_at(alloc: Global, bytes: &[u8]) -> Result<Option<(String, &[u8])>, NoMemory>
+    ensures { IfOk result (λ found. Agrees (λ value. (string_bytes value.0, value.1.now)) found (rules.value_at bytes.now)) }
+{
+    let Some((value, rest)) = quoted_at(bytes) else {
+        return Ok(None);
+    };
+    match content_of(alloc, value)? {
+        Some(text) => Ok(Some((text, rest))),
+        None => Ok(None),
+    }
+}
+
+/// The name before an `=` and what follows that, with blanks before the name and blanks round the `=`.
+#[tactic(auto, unfolding(markup_rules::specs::Reading::label_at))]
+fn label_at(bytes: &[u8]) -> Option<(&str, &[u8])>
+    ensures { Agrees (λ label. (label.0.now, label.1.now)) result (rules.label_at bytes.now) }
+{
+    let rest = blank_at(bytes)?;
+    let (name, rest) = name_at(rest)?;
+    let rest = equals_at(after_blanks(rest))?;
+    Some((name, after_blanks(rest)))
+}
+
+/// An attribute as it stands in a tag: its name, and what its value means.
+#[derive(Drop)]
+pub(crate) struct Attribute<'a> {
+    name: &'a str,
+    value: String,
+}
+
+/// The attribute at the front, behind a blank at least, and what follows it.
+#[tactic(auto, unfolding(markup_rules::specs::Reading::attribute_at))]
+fn attribute_at(alloc: Global, bytes: &[u8]) -> Result<Option<(Attribute<'_>, &[u8])>, NoMemory>
+    ensures { IfOk result (λ found. Agrees (λ a. (attribute_view a.0, a.1.now)) found (rules.attribute_at bytes.now)) }
+{
+    let Some((name, rest)) = label_at(bytes) else {
+        return Ok(None);
+    };
+    match value_at(alloc, rest)? {
+        Some((value, rest)) => Ok(Some((Attribute { name, value }, rest))),
+        None => Ok(None),
+    }
+}
+
+/// Whether an attribute of this name is among these.
+fn has_name(attributes: &[(Name, Name)], name: &str) -> bool
+    ensures { result ≡ list_any (bytes_eq name.now) (map (λ a. a.0) attributes.now) }
+{
+    for (key, _) in attributes {
+        if name == key.as_str() {
+            return true;
+        }
+    }
+    false
+}
+
+/// Adds an attribute, unless one of its name is there.
+fn push_first(
+    alloc: Global,
+    kept: &mut Seq<(Name, Name)>,
+    attribute: &Attribute<'_>,
+) -> Result<(), NoMemory>
+    ensures { OnOk result (kept.new ≡ with_attribute (attribute_view attribute.now) kept.old) }
+{
+    if has_name(kept.as_slice(), attribute.name) {
+        return Ok(());
+    }
+    let name = Name::from_str(alloc, attribute.name)?;
+    let value = Name::from_str(alloc, attribute.value.as_str())?;
+    kept.push((name, value))
+}
+
+/// Whether the bytes are `/` alone.
+fn is_slash(bytes: &[u8]) -> bool
+    ensures { result ≡ rules.is_slash bytes.now }
+{
+    bytes == b"/".as_slice()
+}
+
+/// Whether no attribute is left before the end of a tag.
+fn is_tag_end(bytes: &[u8]) -> bool
+    ensures { result ≡ rules.is_tag_end bytes.now }
+{
+    let rest = after_blanks(bytes);
+    rest.is_empty() || is_slash(rest)
+}
+
+/// The attributes at the front, of those with one name the first, and what ends their tag.
+pub(crate) fn attributes_at(
+    alloc: Global,
+    bytes: &[u8],
+) -> Result<Option<(Seq<(Name, Name)>, &[u8])>, NoMemory>
+    ensures { IfOk result (λ found. Agrees (λ a. (a.0, a.1.now)) found (rules.attributes_at bytes.now)) }
+{
+    let mut kept = Seq::new(alloc);
+    let mut rest = bytes;
+    while !is_tag_end(rest) {
+        let Some((attribute, after)) = attribute_at(alloc, rest)? else {
+            return Ok(None);
+        };
+        push_first(alloc, &mut kept, &attribute)?;
+        rest = after;
+    }
+    Ok(Some((kept, rest)))
+}

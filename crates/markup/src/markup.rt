@@ -1,0 +1,174 @@
+ghost use Rattle.std.specs.Prelude.{◌≡◌, IfOk, codes, drop};
+ghost use Rattle.markup_rules.specs.Bytes as byte_rules;
+ghost use Rattle.markup_rules.specs.Reading as rules;
+ghost use Rattle.markup_rules.specs.Reading.{Agrees};
+ghost use Rattle.markup.specs.Views.{item_view, markup_view, opening_view};
+
+use crate::attributes::attributes_at;
+use crate::bytes::{after_blanks, are_blanks, is_doctype, is_text};
+use crate::content::content_of;
+use crate::items::Item;
+use crate::names::name_at;
+use crate::searches::{begins, first_place};
+use outside::{Name, NoMemory, Seq};
+use std::alloc::Global;
+
+/// The name and the attributes of an element.
+#[derive(Drop)]
+pub(crate) struct Opening {
+    pub(crate) name: Name,
+    pub(crate) attributes: Seq<(Name, Name)>,
+}
+
+/// What an item is, if it is of a right form.
+#[derive(Drop)]
+pub(crate) enum Markup<'a> {
+    /// The start of an element.
+    Start(Opening),
+    /// An element without anything in it.
+    Empty(Opening),
+    /// The end of an element of this name.
+    Finish(&'a str),
+    /// A comment or an instruction.
+    Aside,
+    /// A document type.
+    Doctype,
+    /// Characters and references: whether they are blanks alone, and what they mean.
+    Content(bool, String),
+    /// Of no right form.
+    Bad,
+}
+
+/// A tag that starts an element, or is a whole one.
+fn opened(opening: Opening, rest: &[u8]) -> Markup<'_>
+    ensures { markup_view result ≡ rules.opened (opening_view opening) rest.now }
+{
+    if after_blanks(rest).is_empty() {
+        Markup::Start(opening)
+    } else {
+        Markup::Empty(opening)
+    }
+}
+
+/// A tag that starts an element: its name, its attributes, and `/` where the element is empty.
+#[tactic(auto, unfolding(markup_rules::specs::Reading::start_tag))]
+fn start_tag(alloc: Global, body: &[u8]) -> Result<Option<Markup<'_>>, NoMemory>
+    ensures { IfOk result (λ found. Agrees markup_view found (rules.start_tag body.now)) }
+{
+    let Some((name, rest)) = name_at(body) else {
+        return Ok(None);
+    };
+    match attributes_at(alloc, rest)? {
+        Some((attributes, rest)) => {
+            let name = Name::from_str(alloc, name)?;
+            let markup = opened(Opening { name, attributes }, rest);
+            Ok(Some(markup))
+        }
+        None => Ok(None),
+    }
+}
+
+/// A tag that ends an element, behind its `/`.
+#[tactic(auto, unfolding(markup_rules::specs::Reading::end_tag))]
+fn end_tag(body: &[u8]) -> Option<Markup<'_>>
+    ensures { Agrees markup_view result (rules.end_tag body.now) }
+{
+    let (name, rest) = name_at(body)?;
+    if are_blanks(rest) {
+        Some(Markup::Finish(name))
+    } else {
+        None
+    }
+}
+
+/// A tag.
+#[tactic(auto, unfolding(markup_rules::specs::Reading::tag_markup))]
+fn tag_markup(alloc: Global, body: &[u8]) -> Result<Option<Markup<'_>>, NoMemory>
+    ensures { IfOk result (λ found. Agrees markup_view found (rules.tag_markup body.now)) }
+{
+    match body {
+        [] => Ok(None),
+        [byte, rest @ ..] => {
+            if *byte == b'/' {
+                let markup = end_tag(rest);
+                Ok(markup)
+            } else {
+                let markup = start_tag(alloc, body)?;
+                Ok(markup)
+            }
+        }
+    }
+}
+
+/// Characters and references.
+#[tactic(auto, unfolding(markup_rules::specs::Reading::data_markup))]
+fn data_markup(alloc: Global, bytes: &[u8]) -> Result<Option<Markup<'_>>, NoMemory>
+    ensures { IfOk result (λ found. Agrees markup_view found (rules.data_markup bytes.now)) }
+{
+    match content_of(alloc, bytes)? {
+        Some(text) => Ok(Some(Markup::Content(are_blanks(bytes), text))),
+        None => Ok(None),
+    }
+}
+
+/// A comment.
+#[tactic(auto, unfolding(markup_rules::specs::Reading::comment_markup))]
+fn comment_markup(body: &[u8]) -> Markup<'_>
+    ensures { markup_view result ≡ rules.comment_markup body.now }
+{
+    if first_place(b"--", body).is_none() && is_text(body) {
+        Markup::Aside
+    } else {
+        Markup::Bad
+    }
+}
+
+/// An instruction.
+#[tactic(auto, unfolding(markup_rules::specs::Reading::instruction_markup))]
+fn instruction_markup(body: &[u8]) -> Markup<'_>
+    ensures { markup_view result ≡ rules.instruction_markup body.now }
+{
+    if is_text(body) {
+        Markup::Aside
+    } else {
+        Markup::Bad
+    }
+}
+
+/// A declaration, which can only be a document type.
+#[tactic(auto, unfolding(markup_rules::specs::Reading::declaration_markup))]
+fn declaration_markup(body: &[u8]) -> Markup<'_>
+    ensures { markup_view result ≡ rules.declaration_markup body.now }
+{
+    if begins(b"DOCTYPE", body) && is_doctype(&body[7..]) {
+        Markup::Doctype
+    } else {
+        Markup::Bad
+    }
+}
+
+/// What an item is.
+#[tactic(auto, unfolding(markup_rules::specs::Reading::markup_of))]
+pub(crate) fn markup_of<'a>(alloc: Global, item: Item<'a>) -> Result<Markup<'a>, NoMemory>
+    ensures { IfOk result (λ found. markup_view found ≡ rules.markup_of (item_view item.entry)) }
+{
+    match item {
+        Item::Comment(body) => Ok(comment_markup(body)),
+        Item::Instruction(body) => Ok(instruction_markup(body)),
+        Item::Declaration(body) => Ok(declaration_markup(body)),
+        Item::Tag(body) => match tag_markup(alloc, body)? {
+            Some(markup) => Ok(markup),
+            None => Ok(Markup::Bad),
+        },
+        Item::Broken => Ok(Markup::Bad),
+        Item::Unended => Ok(Markup::Bad),
+        Item::DataBetween(bytes) => match data_markup(alloc, bytes)? {
+            Some(markup) => Ok(markup),
+            None => Ok(Markup::Bad),
+        },
+        Item::DataToEnd(bytes) => match data_markup(alloc, bytes)? {
+            Some(markup) => Ok(markup),
+            None => Ok(Markup::Bad),
+        },
+    }
+}

@@ -1,0 +1,6 @@
+use Rattle.markup_rules.proofs.Found.{tree_takes}
+use Rattle.markup_rules.proofs.Whole.{tree_again}
+use Rattle.markup_rules.proofs.tree_law.Goals as goal
+
+pub returns : goal.returns
+returns c = λ text tree. (tree_takes text tree, tree_again text tree)
