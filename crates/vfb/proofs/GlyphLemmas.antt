@@ -10,17 +10,15 @@ use Rattle.region_support.specs.MasterOrder.{axes_of}
 use Rattle.region_support.specs.Places.{places_of, regions_in}
 use Rattle.region_support.specs.Regions.{AreNormalisedPlaces, AreNormalisedRegions, AreNoneIfIgnored}
 use Rattle.region_support.proofs.RegionLaw.{regions_count}
-use Rattle.delta_solve.specs.Outlines.{all_points, place}
-use Rattle.delta_solve.specs.GlyphModels.{IsModelOf, IsTupleWithin, default_of, delta_fault}
+use Rattle.delta_solve.specs.Deltas.{whole_rows}
+use Rattle.delta_solve.specs.GlyphModels.{IsModelOf, IsTupleWithin, delta_fault}
 use Rattle.delta_solve.specs.declared.model.DeltaStop.TheVariants.{DeltaRange}
 use Rattle.delta_solve.specs.declared.model.GlyphModel.{GlyphModel}
-use Rattle.delta_solve.specs.declared.model.GlyphTuple.{GlyphTuple}
-use Rattle.delta_solve.proofs.GlyphLemmas.{few_points}
 use Rattle.gvar_table.specs.Layout.{IsWritten}
-use Rattle.glyph_variations.specs.Conditions.{AreGlyphTuples, AreWritable, point_count}
-use Rattle.glyph_variations.specs.Variations.{variations_of, explicit_points, outline_points}
-use Rattle.glyph_variations.specs.Draws.{Draws}
+use Rattle.glyph_variations.specs.Conditions.{AreWritable, IsVariable, point_count}
+use Rattle.glyph_variations.specs.Variations.{AreVariations, explicit_points, outline_points}
 use Rattle.glyph_variations.proofs.DrawsLemmas.{models_are_drawn}
+use Rattle.glyph_variations.proofs.ModelLemmas.{is_variable, points_of_default}
 use Rattle.vfb.specs.Glyph.{IsMadeOf, IsDrawnBy, regions, outline_count, axis_count}
 use Rattle.vfb.specs.Lines.{counts_line}
 use Rattle.vfb.specs.Masters.{Masters, AreGathered, fitting, masters_or, range_fault}
@@ -46,35 +44,16 @@ fitting_fault masters found master point y value same is =
     ap (λ fault. masters_or fault masters) (ap (λ regions. delta_fault regions masters.locations masters.outlines) (sym same) ∙ is)
 
 module _ (masters : Masters) (gathered : AreGathered masters) (model : GlyphModel) (is : IsModelOf (regions masters) masters.locations masters.outlines model) where
-  some_outline : 0 < length masters.outlines
-  some_outline = some masters.locations gathered.some_axes gathered.one_each
-    where
-      some : (locations : List (List ℤ)) → 1 ≤ axes_of locations → length masters.outlines ≡ length locations → 0 < length masters.outlines
-      some [] axes same = absurd (omega (arith, axes))
-      some (at ∷ more) axes same = omega (arith, same)
-
   -- the default's tuple has its points
   pub point_count_is : point_count model.tuples ≡ outline_count masters
-  point_count_is = first model.tuples is.tuples.points (omega (arith, some_outline, is.tuples.one_each))
-    where
-      first : (tuples : List GlyphTuple) → All (λ (tuple : GlyphTuple). length tuple.deltas ≡ outline_count masters) tuples → 0 < length tuples → point_count tuples ≡ outline_count masters
-      first [] each some = absurd (omega arith)
-      first (default ∷ tuples) each some = each 0 default (omega arith)
+  point_count_is = points_of_default (whole_rows (regions masters) masters.locations) masters.outlines model.tuples is.tuples
 
-  few_outline_points : outline_count masters ≤ 4000
-  few_outline_points = omega (arith, length-map (all_points (default_of masters.outlines)) place, few_points (default_of masters.outlines) (gathered.within 0 _ some_outline))
-
-  -- the model's tuples can be made tuple variations of
-  pub are_glyph_tuples : All IsTupleWithin model.tuples → AreGlyphTuples model.tuples
-  are_glyph_tuples within = record {
-    few = omega (arith, gathered.few, gathered.one_each, is.tuples.one_each);
-    few_points = omega (arith, point_count_is, few_outline_points);
-    alike = λ k d below. is.tuples.points k d below ∙ sym point_count_is;
-    within = within;
-  }
+  -- tuple variations can be made of the model
+  pub variable : All IsTupleWithin model.tuples → IsVariable model.lengths model.tuples
+  variable within = is_variable (whole_rows (regions masters) masters.locations) masters.outlines model is within gathered.within (omega (arith, gathered.few, gathered.one_each))
 
   -- the data are made of the masters
-  pub is_made : (tuples : List TupleVariation) (bytes : List ℕ) (count explicit points : ℕ) → tuples ≡ variations_of model.lengths (regions masters) model.tuples
+  pub is_made : (tuples : List TupleVariation) (bytes : List ℕ) (count explicit points : ℕ) → AreVariations model.lengths (regions masters) model.tuples tuples
       → IsWritten (point_count model.tuples + 4) bytes tuples → count ≡ length tuples → explicit ≡ explicit_points (point_count model.tuples) tuples → points ≡ outline_points (point_count model.tuples) tuples
       → IsMadeOf masters (record { bytes = bytes; summary = counts_line count explicit points })
   is_made tuples bytes count explicit points are written counted named all = record {
@@ -88,12 +67,12 @@ module _ (masters : Masters) (gathered : AreGathered masters) (model : GlyphMode
   }
 
   -- and draw what they draw
-  pub is_drawn : (tuples : List TupleVariation) (bytes : List ℕ) → tuples ≡ variations_of model.lengths (regions masters) model.tuples
+  pub is_drawn : (tuples : List TupleVariation) (bytes : List ℕ) → All IsTupleWithin model.tuples → AreVariations model.lengths (regions masters) model.tuples tuples
       → MeansTuples (axis_count masters) (point_count model.tuples + 4) [] bytes tuples → IsDrawnBy masters bytes
-  is_drawn tuples bytes are means = record {
+  is_drawn tuples bytes within are means = record {
     tuples = tuples;
     means = subst (λ n. MeansTuples (axis_count masters) (n + 4) [] bytes tuples) point_count_is means;
-    draws = subst (Draws (regions masters) masters.locations masters.outlines) (sym are) (models_are_drawn (axes_of masters.locations) masters.locations masters.outlines model gathered.ordered is);
+    draws = models_are_drawn (axes_of masters.locations) masters.locations masters.outlines model tuples gathered.ordered gathered.within within is are;
   }
 
 -- the regions of the masters can be written

@@ -9,7 +9,7 @@ use Rattle.delta_solve.specs.Outlines.{points_of}
 use Rattle.delta_solve.specs.GlyphModels.{IsModelOf, default_of}
 use Rattle.delta_solve.specs.declared.model.GlyphModel.{GlyphModel}
 use Rattle.gvar_table.specs.Layout.{IsWritten}
-use Rattle.glyph_variations.specs.Variations.{variations_of, explicit_points, outline_points}
+use Rattle.glyph_variations.specs.Variations.{AreVariations, explicit_points, outline_points}
 use Rattle.glyph_variations.specs.Draws.{Draws}
 use Rattle.vfb.specs.Lines.{counts_line}
 use Rattle.vfb.specs.Masters.{Masters}
@@ -34,12 +34,13 @@ axis_count masters = axes_of masters.locations
 abbrev pub regions : Masters → List (List Triple)
 regions masters = regions_of masters.locations
 
--- The bytes are the one spelling of the tuple variations of the masters' model, and what is said are their counts.
+-- The bytes are the one spelling of the tuple variations of the masters' model, which name on each contour its least set
+-- of points, and what is said are their counts. (A model has one list of tuple variations: a law of theirs.)
 pub record IsMadeOf (masters : Masters) (made : Made) : Type 0 where
   pub model : GlyphModel
   pub tuples : List TupleVariation
   pub is_model : IsModelOf (regions masters) masters.locations masters.outlines model
-  pub are_its : tuples ≡ variations_of model.lengths (regions masters) model.tuples
+  pub are_its : AreVariations model.lengths (regions masters) model.tuples tuples
   pub written : IsWritten (all_count masters) made.bytes tuples
   pub counted : made.summary ≡ counts_line (length tuples) (explicit_points (outline_count masters) tuples) (outline_points (outline_count masters) tuples)
 

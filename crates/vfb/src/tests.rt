@@ -72,19 +72,53 @@ const WIDE: &str = r#"<glyph name="space" format="2">
 /// The words that ask for the data of the drawings in `a.glif` and `b.glif`.
 const WORDS: &[&str] = &["vfb", "tuples", "o.bin", "a.glif@0", "b.glif@16384"];
 
-/// The data of the triangle that moves: one tuple with its peak at 16,384, all seven points, the x deltas
-/// three times 50 and four zeros, and seven zeros for y.
+/// The data of the triangle that moves: one tuple with its peak at 16,384, one point, which is the first,
+/// its x delta 50 and its y delta 0. The other points follow it.
 const MOVED_DATA: &[u8] = &[
-    0x00, 0x01, 0x00, 0x0A, 0x00, 0x07, 0xA0, 0x00, 0x40, 0x00, 0x00, 0x02, 0x32, 0x32, 0x32, 0x83,
-    0x86,
+    0x00, 0x01, 0x00, 0x0A, 0x00, 0x06, 0xA0, 0x00, 0x40, 0x00, 0x01, 0x00, 0x00, 0x00, 0x32, 0x80,
 ];
 
 /// What is said of them.
-const MOVED_SAID: &str = "tuples 1 explicit 3 of 3\n";
+const MOVED_SAID: &str = "tuples 1 explicit 1 of 3\n";
 
-/// The data of the advance that grows: the second of the four phantom points has 60 for x.
+/// The data of the advance that grows: the second phantom point alone, with 60 for x.
 const WIDE_DATA: &[u8] = &[
-    0x00, 0x01, 0x00, 0x0A, 0x00, 0x06, 0xA0, 0x00, 0x40, 0x00, 0x00, 0x80, 0x00, 0x3C, 0x81, 0x83,
+    0x00, 0x01, 0x00, 0x0A, 0x00, 0x06, 0xA0, 0x00, 0x40, 0x00, 0x01, 0x00, 0x01, 0x00, 0x3C, 0x80,
+];
+
+/// A square with the corners (0, 0), (100, 0), (100, 100) and (0, 100).
+const SQUARE: &str = r#"<glyph name="box" format="2">
+<advance width="120"/>
+<outline>
+<contour>
+<point x="0" y="0" type="line"/>
+<point x="100" y="0" type="line"/>
+<point x="100" y="100" type="line"/>
+<point x="0" y="100" type="line"/>
+</contour>
+</outline>
+</glyph>
+"#;
+
+/// The same, wider by 50 on the right.
+const BROAD: &str = r#"<glyph name="box" format="2">
+<advance width="120"/>
+<outline>
+<contour>
+<point x="0" y="0" type="line"/>
+<point x="150" y="0" type="line"/>
+<point x="150" y="100" type="line"/>
+<point x="0" y="100" type="line"/>
+</contour>
+</outline>
+</glyph>
+"#;
+
+/// The data of the square that grows: the first two corners, with 0 and 50 for x; the third is at the
+/// coordinate of the second, and the fourth at that of the first.
+const BROAD_DATA: &[u8] = &[
+    0x00, 0x01, 0x00, 0x0A, 0x00, 0x08, 0xA0, 0x00, 0x40, 0x00, 0x02, 0x01, 0x00, 0x01, 0x80, 0x00,
+    0x32, 0x81,
 ];
 
 /// A run over files that are always read, with room for all that it writes and says: its words and its
@@ -98,7 +132,7 @@ struct Case {
 }
 
 /// Drawings in two files.
-const CASES: [Case; 13] = [
+const CASES: [Case; 14] = [
     Case {
         words: WORDS,
         files: &[("a.glif", TRIANGLE), ("b.glif", MOVED)],
@@ -119,6 +153,13 @@ const CASES: [Case; 13] = [
         status: 0,
         said: "tuples 1 explicit 0 of 0\n",
         held: Some(WIDE_DATA),
+    },
+    Case {
+        words: WORDS,
+        files: &[("a.glif", SQUARE), ("b.glif", BROAD)],
+        status: 0,
+        said: "tuples 1 explicit 2 of 4\n",
+        held: Some(BROAD_DATA),
     },
     Case {
         words: WORDS,
@@ -398,7 +439,7 @@ const FAILING: [Failing; 6] = [
         status: 4,
         begins: "write fault o.bin\n",
         ends: "write fault o.bin\n",
-        held: Some(&[0x00, 0x01, 0x00, 0x0A, 0x00, 0x07, 0xA0, 0x00]),
+        held: Some(&[0x00, 0x01, 0x00, 0x0A, 0x00, 0x06, 0xA0, 0x00]),
     },
     Failing {
         reads: &[],
@@ -443,11 +484,11 @@ fn ends_where_a_device_fails(rt: HostRuntime) -> Result<(), Fail> {
 /// Rooms for the data and for the text; and then the status, what is said, and how many bytes of the data
 /// `o.bin` holds.
 const ROOMS: [(u64, u64, u8, &str, usize); 5] = [
-    (17, 25, 0, MOVED_SAID, 17),
-    (16, 99, 4, "write fault o.bin\n", 16),
+    (16, 25, 0, MOVED_SAID, 16),
+    (15, 99, 4, "write fault o.bin\n", 15),
     (0, 17, 4, "write fault o.bin", 0),
-    (17, 24, 4, "tuples 1 explicit 3 of 3", 17),
-    (17, 0, 4, "", 17),
+    (16, 24, 4, "tuples 1 explicit 1 of 3", 16),
+    (16, 0, 4, "", 16),
 ];
 
 #[test]

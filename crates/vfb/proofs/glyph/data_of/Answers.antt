@@ -4,17 +4,17 @@ use Rattle.variation_rules.specs.TupleVariations.{MeansTuples}
 use Rattle.gvar_table.specs.Layout.{IsWritten}
 use Rattle.gvar_table.specs.Tuples.{variation_of}
 use Rattle.glyph_variations.specs.Conditions.{point_count}
-use Rattle.glyph_variations.specs.Variations.{variations_of}
+use Rattle.glyph_variations.specs.Variations.{AreVariations}
 use Rattle.vfb.specs.Glyph.{axis_count, regions}
 use Rattle.vfb.specs.Making.{shown}
-use Rattle.vfb.proofs.GlyphLemmas.{are_glyph_tuples, are_writable, is_made, is_drawn}
+use Rattle.vfb.proofs.GlyphLemmas.{are_writable, is_drawn, is_made, variable}
 use Rattle.vfb.proofs.glyph.data_of.Goals as goal
 
 pub variations-requires : goal.variations-requires
-variations-requires c = are_glyph_tuples (shown c.args.masters.now) c.requires c.in-Ok.model c.in-Ok.ensures.model c.in-Ok.ensures.within
+variations-requires c = variable (shown c.args.masters.now) c.requires c.in-Ok.model c.in-Ok.ensures.model c.in-Ok.ensures.within
 
 pub all_count-requires : goal.all_count-requires
-all_count-requires c = are_glyph_tuples (shown c.args.masters.now) c.requires c.in-Ok.model c.in-Ok.ensures.model c.in-Ok.ensures.within
+all_count-requires c = (variable (shown c.args.masters.now) c.requires c.in-Ok.model c.in-Ok.ensures.model c.in-Ok.ensures.within).tuples_are
 
 pub glyph_data-requires : goal.glyph_data-requires
 glyph_data-requires c =
@@ -30,14 +30,14 @@ returns-clause-makes c =
     let found = c.in_ok-found.ensures in
     let written = c.in_ok-bytes.ensures in
     let tuples = map variation_of c.in_ok-found.found.tuples in
-    let are : tuples ≡ variations_of c.in-Ok.model.lengths (regions masters) c.in-Ok.model.tuples =
-    found.tuples ∙ ap (λ regions. variations_of c.in-Ok.model.lengths regions c.in-Ok.model.tuples) c.in_ok-supports.ensures.value in (
+    let are : AreVariations c.in-Ok.model.lengths (regions masters) c.in-Ok.model.tuples tuples =
+    subst (λ regions. AreVariations c.in-Ok.model.lengths regions c.in-Ok.model.tuples tuples) c.in_ok-supports.ensures.value found.tuples in (
       masters,
       model.fits,
       is_made masters c.requires c.in-Ok.model model.model tuples c.in_ok-bytes.bytes.items _ _ _ are
           (subst (λ n. IsWritten n c.in_ok-bytes.bytes.items tuples) c.all_count.ensures written.written)
           (c.len.ensures ∙ sym (length-map c.in_ok-found.found.tuples variation_of)) found.explicit found.points,
-      is_drawn masters c.requires c.in-Ok.model model.model tuples c.in_ok-bytes.bytes.items are
+      is_drawn masters c.requires c.in-Ok.model model.model tuples c.in_ok-bytes.bytes.items model.within are
           (subst (λ n. MeansTuples n (point_count c.in-Ok.model.tuples + 4) [] c.in_ok-bytes.bytes.items tuples) c.axis_count.ensures
           (subst (λ n. MeansTuples c.axis_count.result n [] c.in_ok-bytes.bytes.items tuples) c.all_count.ensures written.means)),
     )
