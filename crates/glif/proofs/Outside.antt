@@ -80,5 +80,5 @@ none_within outline none =
 pub within_none : (outline : Outline) → IsWithinLimits outline → first_outside outline ≡ None
 within_none outline within =
     both_none _ _ (none_in_range (pos 0) (pos 16383) outline.advance within.least_advance within.greatest_advance)
-      (both_none _ _ (all_none contour_outside IsContourWithin within_contour outline.contours within.contours_within)
-        (none_in_range (pos 0) (pos 4000) (pos (point_count outline.contours)) (le_pos _ _ (omega arith)) (le_pos _ _ (many within.points))))
+    (both_none _ _ (all_none contour_outside IsContourWithin within_contour outline.contours within.contours_within)
+    (none_in_range (pos 0) (pos 4000) (pos (point_count outline.contours)) (le_pos _ _ (omega arith)) (le_pos _ _ (many within.points))))
