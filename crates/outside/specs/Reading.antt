@@ -1,6 +1,7 @@
 -- The value of a source or its first fault, and what it means that a call gives it.
 -- A is a value, F a fault, and S the stop of a call, which may also be want of memory.
-use Rattle.std.specs.Prelude.{◌≡◌, List, [], ◌∷◌, ◌++◌, Result, Ok, Err}
+use Rattle.std.specs.Prelude.{◌≡◌, ℕ, ℤ, pos, List, [], ◌∷◌, ◌++◌, Result, Ok, Err}
+use Rattle.outside.specs.declared.fault.Kind.{Kind}
 use Rattle.outside.specs.declared.fault.Spot.{Spot}
 use Rattle.outside.specs.declared.fault.Stop.{Stop}
 use Rattle.outside.specs.declared.fault.Stop.TheVariants.{At, NoMemory}
@@ -33,3 +34,12 @@ Fails (At spot) reading = reading ≡ Err spot
 -- a call that answers a Stop gives this reading
 abbrev pub Gives : {X Y : Type 0} → (X → Y) → Result X Stop → Result Y Spot → Type 0
 Gives view result reading = GivesBy Fails view result reading
+
+-- a fault with an item, a place and a value; the other fields are 0
+abbrev pub spot_of : Kind → List ℕ → ℕ → ℤ → Spot
+spot_of kind item at first = record { kind = kind; item = item; at = at; also = 0; first = first; second = pos 0 }
+
+-- a stop at this fault, or for want of memory
+abbrev pub IsStop : Stop → Spot → Type 0
+IsStop NoMemory spot = Unit {0}
+IsStop (At found) spot = found ≡ spot

@@ -23,7 +23,7 @@ mod tests;
 mod text;
 mod traits;
 
-pub use fault::{Failed, Fault, Kind, NoMemory, Spot, Stop};
+pub use fault::{Failed, Fault, Kind, NoMemory, Spot, Stop, stop_at};
 pub use host::{HostOutputs, HostSay, HostSources};
 pub use line::{Piece, say_all};
 pub use list::Seq;
