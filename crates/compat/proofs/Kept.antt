@@ -10,13 +10,13 @@ use Rattle.std.proofs.lemmas.Option.{slice_get-get_or, same_Some}
 use Rattle.std.proofs.lemmas.List.{length-map}
 use Rattle.std.proofs.lemmas.List.Sums.{sum_by-cons, sum_by-append}
 use Rattle.std.proofs.lemmas.List.Elements.{All-nil, All-cons, All-head, All-tail, All-append, All-map, All-weaker}
-use Rattle.glif.specs.Limits.{IsPointWithin, IsContourWithin, IsWithinLimits}
+use Rattle.glif.specs.Limits.{IsPointWithin, IsContourWithin, IsWithinLimits, IsOffsetWithin}
 use Rattle.glif.specs.declared.shape.Point.{Point}
 use Rattle.glif.specs.declared.shape.Outline.{Outline}
 use Rattle.glif.specs.declared.shape.Component.{Component}
 use Rattle.glif.specs.declared.shape.Drawing.{Drawing}
 use Rattle.compat.specs.Names.{number_of, base_numbers, references, dangling_in, dangling_refusal, dangling_from, first_dangling}
-use Rattle.compat.specs.Flattened.{moved, moved_contours, IsNamed, ArePlaced, nothing, placed, IsFlattened, shown_count, IsOffsetWithin, AreFit}
+use Rattle.compat.specs.Flattened.{moved, moved_contours, IsNamed, ArePlaced, nothing, placed, IsFlattened, shown_count, AreFit}
 use Rattle.compat.specs.Flats.{IsPointNear, AreNear, IsFlatOf, IsKept, CanMove, flat_at, flat_contours, flat_count, joint_count, placed_contours, AreMovable, joined_flat}
 use Rattle.compat.specs.declared.flat.Flat.{Flat}
 use Rattle.compat.specs.declared.flat.Flat.TheVariants.{Unknown, Few, Many}

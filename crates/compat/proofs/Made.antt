@@ -8,12 +8,12 @@ use Rattle.std.proofs.lemmas.List.{get_or-set_same, get_or-set_other, get_or-tak
 use Rattle.std.proofs.Math.ListN.{get_or-map}
 use Rattle.std.proofs.lemmas.List.Elements.{All-nil, All-cons, All-weaker}
 use Rattle.std.proofs.lemmas.Grind.{common_steps}
-use Rattle.glif.specs.Limits.{IsWithinLimits}
+use Rattle.glif.specs.Limits.{IsWithinLimits, IsOffsetWithin}
 use Rattle.glif.specs.declared.shape.Component.{Component}
 use Rattle.glif.specs.declared.shape.Drawing.{Drawing}
 use Rattle.compat.specs.References.{bases_at, IsClosed, IsOrder}
 use Rattle.compat.specs.Names.{number_of, base_numbers, references, dangling_in, first_dangling}
-use Rattle.compat.specs.Flattened.{IsFlattened, IsOffsetWithin, AreFit}
+use Rattle.compat.specs.Flattened.{IsFlattened, AreFit}
 use Rattle.compat.specs.Flats.{IsFlatOf, IsKept, AreKept, HasBases, IsJoined, AreMovable, joined_flat}
 use Rattle.compat.specs.declared.flat.Flat.{Flat}
 use Rattle.compat.specs.declared.flat.Flat.TheVariants.{Unknown, Few, Many}

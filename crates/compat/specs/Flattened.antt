@@ -8,7 +8,7 @@ use Rattle.outside.specs.declared.fault.Stop.{Stop}
 use Rattle.outside.specs.declared.fault.Stop.TheVariants.{NoMemory, At}
 use Rattle.outside.specs.declared.fault.Kind.{Kind}
 use Rattle.outside.specs.declared.fault.Kind.TheVariants.{CoordinateRange, TooManyPoints, ComponentCycle}
-use Rattle.glif.specs.Limits.{IsWithinLimits}
+use Rattle.glif.specs.Limits.{IsOffsetWithin, IsWithinLimits}
 use Rattle.glif.specs.FirstOutside.{first_given, point_outside}
 use Rattle.glif.specs.declared.shape.Point.{Point}
 use Rattle.glif.specs.declared.shape.Outline.{Outline}
@@ -52,13 +52,6 @@ shown_count contours = min (sum_by length contours) 1000000000
 -- the first coordinate out of range, by contour and point, x before y
 abbrev pub coordinate_outside : List (List Point) → Option ℤ
 coordinate_outside contours = first_given (first_given point_outside) contours
-
--- each number of an offset is in -16384 .. 16383
-pub record IsOffsetWithin (component : Component) : Type 0 where
-  pub least_x : negsuc 16383 ≤ℤ component.dx
-  pub greatest_x : component.dx ≤ℤ pos 16383
-  pub least_y : negsuc 16383 ≤ℤ component.dy
-  pub greatest_y : component.dy ≤ℤ pos 16383
 
 -- at most 32,510 drawings, each within limits, and so its components' offsets
 pub record AreFit (drawings : List Drawing) : Type 0 where

@@ -1,7 +1,8 @@
 //! What no clause says: that `flatten` succeeds where there is enough memory, and answers worked out by hand.
 
 ghost use Rattle.std.specs.Prelude.{◌≡◌, IsTrue, All};
-ghost use Rattle.compat.specs.Flattened.{IsOffsetWithin, AreFit};
+ghost use Rattle.compat.specs.Flattened.{AreFit};
+ghost use Rattle.glif.specs.Limits.{IsOffsetWithin};
 
 use crate::{Difference, compare, flatten, same_bases};
 use glif::{Component, Drawing, Outline, Point, within};

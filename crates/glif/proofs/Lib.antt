@@ -1,6 +1,1 @@
-mod Text
-mod Many
-mod Pieces
-mod Lines
-pub mod Laws
 mod Outside

@@ -1,5 +1,8 @@
+pub mod Attributes
+pub mod Components
+pub mod Contours
+pub mod FirstOutside
+pub mod Glyphs
 pub mod Limits
 pub mod Plain
-pub mod Reading
-pub mod FirstOutside
 pub mod Shapes

@@ -2,6 +2,7 @@
 use Rattle.std.specs.Prelude.{◌≤◌, pos, negsuc, ◌≤ℤ◌, List, length, All, sum_by}
 use Rattle.glif.specs.declared.shape.Point.{Point}
 use Rattle.glif.specs.declared.shape.Outline.{Outline}
+use Rattle.glif.specs.declared.shape.Component.{Component}
 
 -- each coordinate is in -16384 .. 16383
 pub record IsPointWithin (point : Point) : Type 0 where
@@ -22,3 +23,10 @@ pub record IsWithinLimits (outline : Outline) : Type 0 where
   pub greatest_advance : outline.advance ≤ℤ pos 16383
   pub contours_within : All IsContourWithin outline.contours
   pub points : sum_by length outline.contours ≤ 4000
+
+-- each number of an offset is in -16384 .. 16383
+pub record IsOffsetWithin (component : Component) : Type 0 where
+  pub least_x : negsuc 16383 ≤ℤ component.dx
+  pub greatest_x : component.dx ≤ℤ pos 16383
+  pub least_y : negsuc 16383 ≤ℤ component.dy
+  pub greatest_y : component.dy ≤ℤ pos 16383

@@ -2,9 +2,20 @@ ghost use Rattle.std.specs.Prelude.{◌≡◌, ◌↔◌, pos, negsuc, IsNone};
 ghost use Rattle.glif.specs.Limits.{IsWithinLimits};
 ghost use Rattle.glif.specs.FirstOutside.{out_of, first_given, point_outside, contour_outside, point_count, first_outside};
 
-use crate::plain::{CONTOUR_POINTS, GLYPH_POINTS, GREATEST, LEAST};
 use crate::shape::{Outline, Point};
 use outside::Seq;
+
+/// The least coordinate, in font units.
+pub(crate) const LEAST: i32 = -16_384;
+
+/// The greatest coordinate and the greatest advance width, in font units.
+pub(crate) const GREATEST: i32 = 16_383;
+
+/// The most points of one contour.
+pub(crate) const CONTOUR_POINTS: usize = 1_024;
+
+/// The most points of a glyph.
+pub(crate) const GLYPH_POINTS: usize = 4_000;
 
 /// The number, where it isn't in `least..=greatest`.
 fn out_of(least: i64, greatest: i64, number: i64) -> Option<i64>

@@ -17,6 +17,11 @@ abbrev pub each : {A B F : Type 0} → (A → Result B F) → List A → Result 
 each f [] = Ok []
 each f (t ∷ ts) = f t >>= λ x. each f ts >>= λ xs. Ok (x ∷ xs)
 
+-- a state that each of a list changes, in order, or the first fault
+abbrev pub in_turn : {A S F : Type 0} → (S → A → Result S F) → S → List A → Result S F
+in_turn step state [] = Ok state
+in_turn step state (t ∷ ts) = step state t >>= λ next. in_turn step next ts
+
 -- what is read already, before what is still to be read
 abbrev pub with_front : {A F : Type 0} → List A → Result (List A) F → Result (List A) F
 with_front front read = read >>= λ xs. Ok (front ++ xs)

@@ -2,9 +2,8 @@ use Rattle.std.proofs.Common.{◌≡◌, arith, subst, take}
 use Rattle.std.specs.Prelude.{All}
 use Rattle.std.proofs.lemmas.Grind.{common_steps}
 use Rattle.std.proofs.lemmas.List.Elements.{All-more, All-same}
-use Rattle.glif.specs.Limits.{IsWithinLimits}
+use Rattle.glif.specs.Limits.{IsWithinLimits, IsOffsetWithin}
 use Rattle.glif.specs.declared.shape.Drawing.{Drawing}
-use Rattle.compat.specs.Flattened.{IsOffsetWithin}
 use Rattle.compat.proofs.tests.are_fit.Goals as goal
 
 pub loop-drawing-preserved : goal.loop-drawing-preserved

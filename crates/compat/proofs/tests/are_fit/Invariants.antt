@@ -1,8 +1,7 @@
 use Rattle.std.proofs.Common.{take}
 use Rattle.std.specs.Prelude.{All}
-use Rattle.glif.specs.Limits.{IsWithinLimits}
+use Rattle.glif.specs.Limits.{IsWithinLimits, IsOffsetWithin}
 use Rattle.glif.specs.declared.shape.Drawing.{Drawing}
-use Rattle.compat.specs.Flattened.{IsOffsetWithin}
 use Rattle.compat.proofs.tests.are_fit.Given as goal
 
 abbrev pub invariant-loop-drawing : goal.invariant-loop-drawing

@@ -1,7 +1,7 @@
 use Rattle.std.proofs.Common.{◌≡◌, arith, subst, take}
 use Rattle.std.proofs.lemmas.Grind.{common_steps}
 use Rattle.std.proofs.lemmas.List.Elements.{All-more, All-same}
-use Rattle.compat.specs.Flattened.{IsOffsetWithin}
+use Rattle.glif.specs.Limits.{IsOffsetWithin}
 use Rattle.compat.proofs.tests.are_near.Goals as goal
 
 pub loop-component-preserved : goal.loop-component-preserved

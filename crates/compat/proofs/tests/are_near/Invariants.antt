@@ -1,6 +1,6 @@
 use Rattle.std.proofs.Common.{take}
 use Rattle.std.specs.Prelude.{All}
-use Rattle.compat.specs.Flattened.{IsOffsetWithin}
+use Rattle.glif.specs.Limits.{IsOffsetWithin}
 use Rattle.compat.proofs.tests.are_near.Given as goal
 
 abbrev pub invariant-loop-component : goal.invariant-loop-component
