@@ -1,4 +1,4 @@
-mod Alike
+pub mod Alike
 mod Steps
 mod Marking
 mod Named

@@ -7,7 +7,8 @@ use Rattle.glif.specs.declared.shape.Point.{Point}
 use Rattle.variation_rules.specs.PackedPoints.{count_from}
 use Rattle.delta_solve.specs.Deltas.{next_delta, deltas_behind, deltas_by}
 use Rattle.delta_solve.specs.GlyphModels.{AreTuplesBy, IsNextTuple, default_of, delta_advance, delta_at, delta_x, delta_y, fault_by, first_some, misfit, misfits_in, misfits_of, next_advance, next_misfits, next_x, next_y, point_misfits}
-use Rattle.delta_solve.specs.Outlines.{advance_of, all_points, contour_kinds, place, points_of, x_of, y_of}
+use Rattle.delta_solve.specs.Outlines.{advance_of, all_points, place, points_of, x_of, y_of}
+use Rattle.glif.specs.Shapes.{contour_kinds}
 use Rattle.delta_solve.specs.declared.model.GlyphTuple.{GlyphTuple}
 
 -- the deltas so far and those of the masters from this one on are all

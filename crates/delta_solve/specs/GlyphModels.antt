@@ -7,7 +7,8 @@ use Rattle.variation_rules.specs.FontUnits.{IsFWord, AreFWords}
 use Rattle.variation_rules.specs.PackedPoints.{count_from}
 use Rattle.variation_rules.specs.declared.region.Triple.{Triple}
 use Rattle.delta_solve.specs.Deltas.{next_delta, deltas_by, whole_rows}
-use Rattle.delta_solve.specs.Outlines.{all_points, points_of, contour_lengths, contour_kinds, x_at, y_at, x_of, y_of, advance_of}
+use Rattle.delta_solve.specs.Outlines.{all_points, points_of, contour_lengths, x_at, y_at, x_of, y_of, advance_of}
+use Rattle.glif.specs.Shapes.{contour_kinds}
 use Rattle.delta_solve.specs.declared.model.GlyphTuple.{GlyphTuple}
 use Rattle.delta_solve.specs.declared.model.GlyphModel.{GlyphModel}
 use Rattle.delta_solve.specs.declared.model.DeltaStop.{DeltaStop}

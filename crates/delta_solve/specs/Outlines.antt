@@ -1,5 +1,5 @@
 -- What the outlines of a glyph's masters are compared and computed by.
-use Rattle.std.specs.Prelude.{ℕ, ℤ, Bool, List, length, map, flat_map, slice_index_or}
+use Rattle.std.specs.Prelude.{ℕ, ℤ, List, length, map, flat_map, slice_index_or}
 use Rattle.fixpoint.specs.declared.plane.Pair.{Pair}
 use Rattle.glif.specs.declared.shape.Point.{Point}
 use Rattle.glif.specs.declared.shape.Outline.{Outline}
@@ -19,10 +19,6 @@ points_of outline = map place (all_points outline)
 -- how many points each contour has
 abbrev pub contour_lengths : Outline → List ℕ
 contour_lengths outline = map length outline.contours
-
--- which points of each contour are on the curve
-abbrev pub contour_kinds : Outline → List (List Bool)
-contour_kinds outline = map (λ contour. map (λ (point : Point). point.on) contour) outline.contours
 
 -- the coordinates of the pair of this number
 abbrev pub x_at : ℕ → List Pair → ℤ

@@ -1,7 +1,7 @@
 ghost use Rattle.std.specs.Prelude.{◌≡◌, ◌≤◌, true, [], ◌∷◌, All, IfOk, length};
 ghost use Rattle.glif.specs.Limits.{IsPointWithin, IsWithinLimits};
 ghost use Rattle.delta_solve.specs.GlyphModels.{AreAlike};
-ghost use Rattle.delta_solve.specs.Outlines.{contour_kinds};
+ghost use Rattle.glif.specs.Shapes.{contour_kinds};
 
 use crate::{DeltaStop, GlyphModel, advance_at, model_at, solve, solve_glyph, table};
 use arrayvec::ArrayVec;

@@ -1,21 +1,20 @@
 -- Gathering the masters of a glyph.
-use Rattle.std.proofs.Common.{◌≡◌, ℕ, zero, suc, ℤ, All, Bool, false, Ok, Err, subst, ◌+◌, ◌<◌, List, [], ◌∷◌, ◌++◌, length, map, take, drop, get_or, true, add-one, drop-cons, refl, sym, ◌∙◌, ap, arith}
+use Rattle.std.proofs.Common.{◌≡◌, ℕ, zero, suc, ℤ, All, Option, Some, None, Ok, Err, subst, ◌+◌, ◌<◌, List, [], ◌∷◌, ◌++◌, length, map, take, drop, get_or, true, add-one, drop-cons, refl, sym, ◌∙◌, ap, arith}
 use Rattle.std.proofs.lemmas.List.{get_or_default, take_more, map-append, length-map, get_or-map}
-use Rattle.std.specs.Cmp.{booleans_Decides}
-use Rattle.std.specs.Cmp.Lexicographic.{pointwise_decides}
 use Rattle.arrayvec.specs.ArrayVec.{ArrayVec, array_vec_len}
-use Rattle.outside.specs.declared.fault.Kind.TheVariants.{NotBuilt}
 use Rattle.region_support.specs.Places.{places_of}
 use Rattle.region_support.specs.MasterOrder.{axes_of}
 use Rattle.region_support.specs.Sorting.{IsOrder}
-use Rattle.delta_solve.specs.Outlines.{contour_kinds}
+use Rattle.glif.specs.Shapes.{contour_kinds}
 use Rattle.delta_solve.specs.GlyphModels.{default_of}
 use Rattle.glif.specs.Limits.{IsWithinLimits}
 use Rattle.outside.specs.Reading.{◌>>=◌}
 use Rattle.region_support.specs.Sorting.{place_at, places_at}
 use Rattle.region_support.specs.Regions.{AreNormalisedPlaces}
 use Rattle.region_support.proofs.PlaceLemmas.{number_below, order_length, ordered_masters, ordered_normalised}
-use Rattle.vfb.specs.Faults.{file_fault}
+use Rattle.compat.specs.Differences.{outline_difference}
+use Rattle.compat.specs.declared.compared.Difference.{Difference}
+use Rattle.compat.proofs.Alike.{none_alike}
 use Rattle.vfb.specs.Making.{ArePlaced, shown}
 use Rattle.vfb.specs.Stops.{StopsBy}
 use Rattle.vfb.specs.declared.faults.ReadStop.{ReadStop}
@@ -23,7 +22,7 @@ use Rattle.vfb.specs.declared.faults.ReadStop.TheVariants.{Refused, ReadFault, N
 use Rattle.vfb.specs.Command.{Placed}
 use Rattle.glif.specs.declared.shape.Outline.{Outline}
 use Rattle.glif.specs.declared.shape.Drawing.{Drawing}
-use Rattle.vfb.specs.Masters.{Masters, AreGathered, places_of_drawings, ordered, are_alike, all_alike, drawing_numbered, default_drawing, nothing_drawn, masters_in, gathered}
+use Rattle.vfb.specs.Masters.{Masters, AreGathered, places_of_drawings, ordered, difference_fault, all_alike, drawing_numbered, default_drawing, nothing_drawn, masters_in, gathered}
 use Rattle.vfb.specs.Words.{seen}
 use Rattle.vfb.specs.declared.words.Placed as words
 use Rattle.vfb.specs.declared.masters.Masters as code
@@ -66,30 +65,35 @@ abbrev unplaced : words.Placed
 unplaced = record { path = record { ref_ptr = (0, 0); now = [] }; at = record { items = [] } }
 
 -- a drawing more is like it
-pub alike_step : (default : Outline) (placed : List words.Placed) (drawings : List Drawing) (i : ℕ) (drawing : Drawing) → i < length placed → i < length drawings → drawing ≡ get_or drawings i drawing
-    → are_alike default drawing.outline ≡ true
+pub alike_step : (default : Drawing) (placed : List words.Placed) (drawings : List Drawing) (i : ℕ) (drawing : Drawing) → i < length placed → i < length drawings → drawing ≡ get_or drawings i drawing
+    → outline_difference default.outline drawing.outline ≡ None
     → all_alike default (map seen (drop i placed)) (drop i drawings) ≡ all_alike default (map seen (drop (i + 1) placed)) (drop (i + 1) drawings)
 alike_step default placed drawings i drawing below inside is alike =
     rw (add-one, drop-cons placed i unplaced below, drop-cons drawings i drawing inside, ← is, alike) refl
 
--- two outlines that are alike have the same kinds of points
-kinds_of_alike : (a b : Outline) → are_alike a b ≡ true → contour_kinds a ≡ contour_kinds b
-kinds_of_alike a b alike = (pointwise_decides (pointwise_decides booleans_Decides) (contour_kinds a) (contour_kinds b)).0 alike
+-- a drawing differs, and its file is refused for it
+pub alike_stop : (default : Drawing) (placed : List words.Placed) (drawings : List Drawing) (i : ℕ) (one : words.Placed) (drawing : Drawing) (difference : Difference)
+    → i < length placed → i < length drawings → one ≡ get_or placed i one → drawing ≡ get_or drawings i drawing → outline_difference default.outline drawing.outline ≡ Some difference
+    → all_alike default (map seen (drop i placed)) (drop i drawings) ≡ Err (difference_fault default.name one.path.now difference)
+alike_stop default placed drawings i one drawing difference below inside named is differs =
+    rw (drop-cons placed i one below, drop-cons drawings i drawing inside, ← is, ← named, differs) refl
 
-all_alike_head : (default : Outline) (one : Placed) (drawing : Drawing) (more : List Placed) (others : List Drawing) (test : Bool) → are_alike default drawing.outline ≡ test
-    → all_alike default (one ∷ more) (drawing ∷ others) ≡ Ok tt → (test ≡ true) × (all_alike default more others ≡ Ok tt)
-all_alike_head default one drawing more others true is passed = (refl, rw is at passed)
-all_alike_head default one drawing more others false is passed = absurd (let none : Err (file_fault NotBuilt one.path) ≡ Ok tt = rw is at passed in cc)
+all_alike_head : (default : Drawing) (one : Placed) (drawing : Drawing) (more : List Placed) (others : List Drawing) (found : Option Difference) → outline_difference default.outline drawing.outline ≡ found
+    → all_alike default (one ∷ more) (drawing ∷ others) ≡ Ok tt → (found ≡ None) × (all_alike default more others ≡ Ok tt)
+all_alike_head default one drawing more others None is passed = (refl, rw is at passed)
+all_alike_head default one drawing more others (Some difference) is passed =
+    absurd (let none : Err (difference_fault default.name one.path difference) ≡ Ok tt = rw is at passed in cc)
 
 -- where none is refused, all have the kinds of the default
-pub kinds_of_all : (default : Outline) (placed : List Placed) (drawings : List Drawing) → length drawings ≡ length placed → all_alike default placed drawings ≡ Ok tt
-    → All (λ (drawing : Drawing). contour_kinds drawing.outline ≡ contour_kinds default) drawings
+pub kinds_of_all : (default : Drawing) (placed : List Placed) (drawings : List Drawing) → length drawings ≡ length placed → all_alike default placed drawings ≡ Ok tt
+    → All (λ (drawing : Drawing). contour_kinds drawing.outline ≡ contour_kinds default.outline) drawings
 kinds_of_all default placed [] same passed k d below = absurd (omega arith)
 kinds_of_all default [] (drawing ∷ others) same passed k d below = absurd (omega arith)
 kinds_of_all default (one ∷ more) (drawing ∷ others) same passed zero d below =
-    sym (kinds_of_alike default drawing.outline (all_alike_head default one drawing more others (are_alike default drawing.outline) refl passed).0)
+    let head = all_alike_head default one drawing more others (outline_difference default.outline drawing.outline) refl passed in
+    sym (none_alike default.outline drawing.outline head.0)
 kinds_of_all default (one ∷ more) (drawing ∷ others) same passed (suc k) d below =
-    kinds_of_all default more others (omega arith) (all_alike_head default one drawing more others (are_alike default drawing.outline) refl passed).1 k d (omega arith)
+    kinds_of_all default more others (omega arith) (all_alike_head default one drawing more others (outline_difference default.outline drawing.outline) refl passed).1 k d (omega arith)
 
 -- ---- the masters in their order
 
@@ -123,13 +127,13 @@ default_is drawings order numbers d same below =
 -- what is gathered, once the places are in order
 gathered_by : (placed : List Placed) (drawings : List Drawing) (places : List (List ℤ)) (order : List ℕ) (default : Drawing)
     → places ≡ places_of_drawings placed → ordered places ≡ Ok order → default ≡ default_drawing drawings order
-    → gathered placed drawings ≡ (all_alike default.outline placed drawings >>= λ _. Ok (masters_in places drawings order))
+    → gathered placed drawings ≡ (all_alike default placed drawings >>= λ _. Ok (masters_in places drawings order))
 gathered_by placed drawings places order default same is first = rw (← same, is, first) refl
 
 -- a drawing that isn't like the default is refused
 pub gathered_stop : (placed : List Placed) (drawings : List Drawing) (places : List (List ℤ)) (order : List ℕ) (default : Drawing) (stop : ReadStop)
     → places ≡ places_of_drawings placed → ordered places ≡ Ok order → default ≡ default_drawing drawings order
-    → StopsBy stop (all_alike default.outline placed drawings) → StopsBy stop (gathered placed drawings)
+    → StopsBy stop (all_alike default placed drawings) → StopsBy stop (gathered placed drawings)
 gathered_stop placed drawings places order default (Refused fault) same is first alike = gathered_by placed drawings places order default same is first ∙ rw alike refl
 gathered_stop placed drawings places order default (ReadFault path) same is first alike = tt
 gathered_stop placed drawings places order default NoMemory same is first alike = tt
@@ -137,7 +141,7 @@ gathered_stop placed drawings places order default NoMemory same is first alike 
 -- and else these are the masters
 pub gathered_ok : (placed : List Placed) (drawings : List Drawing) (places : List (List ℤ)) (order : List ℕ) (default : Drawing) (masters : Masters)
     → places ≡ places_of_drawings placed → ordered places ≡ Ok order → default ≡ default_drawing drawings order
-    → all_alike default.outline placed drawings ≡ Ok tt → masters ≡ masters_in places drawings order → gathered placed drawings ≡ Ok masters
+    → all_alike default placed drawings ≡ Ok tt → masters ≡ masters_in places drawings order → gathered placed drawings ≡ Ok masters
 gathered_ok placed drawings places order default masters same is first alike are = gathered_by placed drawings places order default same is first ∙ rw alike (ap Ok (sym are))
 
 -- ---- what holds of them
@@ -149,7 +153,7 @@ axes_in_order places (number ∷ order) is = is.rising.equal_lengths.0
 pub are_gathered : (placed : List Placed) (drawings : List Drawing) (places : List (List ℤ)) (order : List ℕ) (default : Drawing) (masters : Masters)
     → ArePlaced placed → length drawings ≡ length placed → All (λ (drawing : Drawing). IsWithinLimits drawing.outline) drawings
     → places ≡ places_of_drawings placed → IsOrder places order → default ≡ default_drawing drawings order
-    → all_alike default.outline placed drawings ≡ Ok tt → masters ≡ masters_in places drawings order → AreGathered masters
+    → all_alike default placed drawings ≡ Ok tt → masters ≡ masters_in places drawings order → AreGathered masters
 are_gathered placed drawings places order default masters are same_count within same is first alike made =
     let count : length places ≡ length placed = ap length same ∙ length-map placed (λ (one : Placed). one.at) in
     let below : All (λ number. number < length drawings) order = λ k d inside. omega (arith, number_below places order is k d inside) in
@@ -164,7 +168,7 @@ are_gathered placed drawings places order default masters are same_count within 
       one_each = length-map order (outline_numbered drawings) ∙ sym (length-map order (place_at places));
       within = all_outlines IsWithinLimits drawings order below within;
       alike = subst (λ outline. All (λ other. contour_kinds other ≡ contour_kinds outline) (map (outline_numbered drawings) order)) (sym default_outline)
-          (all_outlines (λ other. contour_kinds other ≡ contour_kinds default.outline) drawings order below (kinds_of_all default.outline placed drawings same_count alike));
+          (all_outlines (λ other. contour_kinds other ≡ contour_kinds default.outline) drawings order below (kinds_of_all default placed drawings same_count alike));
     })
 
 -- each number is that of a drawing

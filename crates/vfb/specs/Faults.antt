@@ -1,30 +1,53 @@
 -- The drawings that a command names, or the first fault of their files.
-use Rattle.std.specs.Prelude.{ℕ, pos, List, [], length, Option, Some, None, Result, Ok, Err, nat_le, if◌then◌else◌}
+use Rattle.std.specs.Prelude.{ℕ, ◌-◌, ◌^◌, min, pos, List, [], ◌∷◌, length, Option, Some, None, Result, Ok, Err, nat_le, if◌then◌else◌}
 use Rattle.outside.specs.Files.{Files}
-use Rattle.outside.specs.Reading.{each}
+use Rattle.outside.specs.Reading.{◌>>=◌, each, spot_of}
 use Rattle.outside.specs.declared.fault.Kind.{Kind}
-use Rattle.outside.specs.declared.fault.Kind.TheVariants.{MissingFile, NotBuilt}
+use Rattle.outside.specs.declared.fault.Kind.TheVariants.{MissingFile, FileTooLong, DanglingComponent}
 use Rattle.outside.specs.declared.fault.Fault.{Fault}
-use Rattle.glif.specs.Reading.{plain_drawing}
+use Rattle.outside.specs.declared.fault.Spot.{Spot}
+use Rattle.markup_rules.specs.Outcome.{outcome}
+use Rattle.glif.specs.Glyphs.{drawing_of}
+use Rattle.glif.specs.declared.shape.Component.{Component}
 use Rattle.glif.specs.declared.shape.Drawing.{Drawing}
 use Rattle.vfb.specs.Command.{Placed}
 
+-- ---- what a text draws
+
+-- a glyph's drawings stand alone, so that no component has a base: the first one is lost
+abbrev pub alone_by : Drawing → List Component → Result Drawing Spot
+alone_by drawing [] = Ok drawing
+alone_by drawing (component ∷ components) = Err (spot_of DanglingComponent drawing.name 0 (pos 0))
+
+abbrev pub alone : Drawing → Result Drawing Spot
+alone drawing = alone_by drawing drawing.components
+
+-- a text is that of a GLIF, whose tree is a drawing's
+unfoldable pub read_as : List ℕ → Result Drawing Spot
+read_as text = outcome text >>= λ tree. drawing_of tree >>= λ drawing. alone drawing
+
+-- ---- what a file draws
+
+-- a fault at a place of a file
+abbrev pub fault_at : List ℕ → Spot → Fault
+fault_at path spot = record { path = path; spot = spot }
+
 -- a fault of a file as a whole
 abbrev pub file_fault : Kind → List ℕ → Fault
-file_fault kind path = record {
-  path = path;
-  spot = record { kind = kind; item = []; at = 0; also = 0; first = pos 0; second = pos 0 };
-}
+file_fault kind path = fault_at path (spot_of kind [] 0 (pos 0))
 
-abbrev pub drawing_or : Option Drawing → List ℕ → Result Drawing Fault
-drawing_or None path = Err (file_fault NotBuilt path)
-drawing_or (Some drawing) path = Ok drawing
+-- how long a file is that is too long, or the greatest number of 64 bits with a sign where it is longer
+abbrev pub length_fault : ℕ → List ℕ → Fault
+length_fault size path = fault_at path (spot_of FileTooLong [] 0 (pos (min size (2 ^ 63 - 1))))
 
--- what a file's content draws: it has at most 67,108,864 bytes and is a plain drawing
+abbrev pub in_file : List ℕ → Result Drawing Spot → Result Drawing Fault
+in_file path (Ok drawing) = Ok drawing
+in_file path (Err spot) = Err (fault_at path spot)
+
+-- what a file draws: it is there, and has at most 67,108,864 bytes
 abbrev pub drawing_in : Option (List ℕ) → List ℕ → Result Drawing Fault
 drawing_in None path = Err (file_fault MissingFile path)
-drawing_in (Some bytes) path =
-    if nat_le (length bytes) 67108864 then drawing_or (plain_drawing bytes) path else Err (file_fault NotBuilt path)
+drawing_in (Some bytes) path = if nat_le (length bytes) 67108864 then in_file path (read_as bytes) else Err (length_fault (length bytes) path)
 
 abbrev pub drawing_at : Files → Placed → Result Drawing Fault
 drawing_at files placed = drawing_in (files placed.path) placed.path

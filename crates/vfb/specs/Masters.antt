@@ -1,11 +1,9 @@
 -- The masters of a glyph that a command's drawings are, in their order, or the first fault.
-use Rattle.std.specs.Prelude.{◌≡◌, ℕ, ℤ, pos, ◌≤◌, Bool, List, [], ◌∷◌, length, map, All, Option, Some, Result, Ok, Err, if◌then◌else◌, slice_index_or}
-use Rattle.std.specs.Bool.{beq}
-use Rattle.std.specs.Cmp.Lexicographic.{pointwise}
+use Rattle.std.specs.Prelude.{◌≡◌, ℕ, ℤ, pos, ◌≤◌, Bool, List, [], ◌∷◌, length, map, All, Option, Some, None, Result, Ok, Err, if◌then◌else◌, slice_index_or}
 use Rattle.outside.specs.Files.{Files}
 use Rattle.outside.specs.Reading.{◌>>=◌}
 use Rattle.outside.specs.declared.fault.Kind.{Kind}
-use Rattle.outside.specs.declared.fault.Kind.TheVariants.{NotBuilt, NoDefaultSource, SameLocation, DeltaRange}
+use Rattle.outside.specs.declared.fault.Kind.TheVariants.{NoDefaultSource, SameLocation, DeltaRange}
 use Rattle.outside.specs.declared.fault.Fault.{Fault}
 use Rattle.glif.specs.Limits.{IsWithinLimits}
 use Rattle.glif.specs.declared.shape.Outline.{Outline}
@@ -15,12 +13,13 @@ use Rattle.region_support.specs.Sorting.{model_fault, order_of, places_at}
 use Rattle.region_support.specs.Regions.{regions_of, AreNormalisedPlaces}
 use Rattle.region_support.specs.declared.sorting.ModelStop.{ModelStop}
 use Rattle.region_support.specs.declared.sorting.ModelStop.TheVariants as model
-use Rattle.delta_solve.specs.Outlines.{contour_kinds}
+use Rattle.compat.specs.Differences.{outline_difference}
+use Rattle.compat.specs.declared.compared.Difference.{Difference}
 use Rattle.delta_solve.specs.GlyphModels.{AreAlike, delta_fault}
 use Rattle.delta_solve.specs.declared.model.DeltaStop.{DeltaStop}
 use Rattle.delta_solve.specs.declared.model.DeltaStop.TheVariants as delta
 use Rattle.vfb.specs.Command.{Placed, Tuples}
-use Rattle.vfb.specs.Faults.{file_fault, drawings_of}
+use Rattle.vfb.specs.Faults.{drawings_of}
 
 -- The masters of a glyph in their order, the default first: its name, which is the default's, the location of each
 -- master, and what it draws.
@@ -49,14 +48,21 @@ ordered places = order_or (model_fault places) (order_of places)
 
 -- ---- the contours
 
--- two drawings have as many contours, with as many points of the same kinds
-abbrev pub are_alike : Outline → Outline → Bool
-are_alike a b = pointwise (pointwise beq) (contour_kinds a) (contour_kinds b)
+-- where a drawing differs from the default's: the fault of its file, with the glyph's name, which is the default's
+abbrev pub difference_fault : List ℕ → List ℕ → Difference → Fault
+difference_fault name path difference = record {
+  path = path;
+  spot = record { kind = difference.kind; item = name; at = difference.contour; also = difference.point; first = difference.first; second = difference.second };
+}
 
--- all are like the default; else the file of the first that isn't is refused
-abbrev pub all_alike : Outline → List Placed → List Drawing → Result (Unit {0}) Fault
+abbrev pub alike_or : List ℕ → List ℕ → Option Difference → Result (Unit {0}) Fault
+alike_or name path None = Ok tt
+alike_or name path (Some difference) = Err (difference_fault name path difference)
+
+-- all have contours like the default's, of as many points of the same kinds; else the first difference is refused
+abbrev pub all_alike : Drawing → List Placed → List Drawing → Result (Unit {0}) Fault
 all_alike default (placed ∷ more) (drawing ∷ others) =
-    if are_alike default drawing.outline then all_alike default more others else Err (file_fault NotBuilt placed.path)
+    alike_or default.name placed.path (outline_difference default.outline drawing.outline) >>= λ _. all_alike default more others
 all_alike default _ _ = Ok tt
 
 -- ---- the masters
@@ -85,7 +91,7 @@ places_of_drawings placed = map (λ (one : Placed). one.at) placed
 abbrev pub gathered : List Placed → List Drawing → Result Masters Fault
 gathered placed drawings =
     ordered (places_of_drawings placed) >>= λ order.
-    all_alike (default_drawing drawings order).outline placed drawings >>= λ _.
+    all_alike (default_drawing drawings order) placed drawings >>= λ _.
     Ok (masters_in (places_of_drawings placed) drawings order)
 
 -- ---- the deltas
@@ -106,7 +112,7 @@ abbrev pub fitting : Masters → Result Masters Fault
 fitting masters = masters_or (delta_fault (regions_of masters.locations) masters.locations masters.outlines) masters
 
 -- The masters of a command's glyph, or the first fault: that of the first file that has one, of the places, of the
--- first drawing that isn't like the default, and of the first delta that doesn't fit.
+-- first drawing whose contours aren't like the default's, and of the first delta that doesn't fit.
 abbrev pub masters_of : Files → Tuples → Result Masters Fault
 masters_of files command =
     drawings_of files command.drawings >>= λ drawings.

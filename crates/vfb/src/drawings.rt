@@ -1,29 +1,53 @@
 ghost use Rattle.std.specs.Prelude.{◌≡◌, length, map, All, IfOk};
+ghost use Rattle.outside.specs.Reading.{Gives};
 ghost use Rattle.glif.specs.Limits.{IsWithinLimits};
-ghost use Rattle.glif.specs.Reading.{plain_drawing};
 ghost use Rattle.glif.specs.declared.shape.Drawing.{Drawing};
-ghost use Rattle.vfb.specs.Faults.{drawing_or, drawing_in, drawings_of};
+ghost use Rattle.vfb.specs.Faults.{alone, drawing_in, drawings_of, in_file, read_as};
 ghost use Rattle.vfb.specs.Stops.{StopsAt, IsReadFrom, NeverFails, Reads};
 ghost use Rattle.vfb.specs.Words.{seen};
 
-use crate::faults::{ReadStop, refuse_file};
+use crate::faults::{ReadStop, refuse_absent, refuse_length, refuse_spot};
 use crate::words::Placed;
-use glif::{Drawing, read_plain};
-use outside::{Found, Kind, ReadError, Seq, Sources, Stop};
+use glif::Drawing;
+use outside::{Found, Kind, ReadError, Seq, Sources, Stop, stop_at};
 use std::alloc::Global;
 
 /// The most bytes of one file that are read.
 const FILE_LIMIT: usize = 67_108_864;
 
+/// The drawing, if it has no components: it stands alone, so that they would draw nothing.
+fn alone(alloc: Global, drawing: Drawing) -> Result<Drawing, Stop>
+    ensures gives { Gives (λ found. found) result (alone drawing) }
+    ensures same { IfOk result (λ found. found ≡ drawing) }
+{
+    if drawing.components.is_empty() {
+        Ok(drawing)
+    } else {
+        Err(stop_at(alloc, Kind::DanglingComponent, drawing.name.as_str(), 0, 0))
+    }
+}
+
+/// The drawing that a text is as a GLIF.
+#[tactic(auto, unfolding(crate::specs::Faults::read_as))]
+fn read_text(alloc: Global, text: &[u8]) -> Result<Drawing, Stop>
+    ensures gives { Gives (λ drawing. drawing) result (read_as text.now) }
+    ensures within { IfOk result (λ drawing. IsWithinLimits drawing.outline) }
+{
+    let tree = markup::read(alloc, text)?;
+    let drawing = glif::read(alloc, &tree)?;
+    let drawing = alone(alloc, drawing)?;
+    Ok(drawing)
+}
+
 /// The drawing that the bytes of the file at `path` are.
 fn drawing_of<'a>(alloc: Global, path: &str, bytes: &[u8]) -> Result<Drawing, ReadStop<'a>>
-    ensures reads { IsReadFrom (drawing_or (plain_drawing bytes.now) path.now) result }
+    ensures reads { IsReadFrom (in_file path.now (read_as bytes.now)) result }
     ensures never { NeverFails result }
     ensures within { IfOk result (λ drawing. IsWithinLimits drawing.outline) }
 {
-    match read_plain(alloc, bytes) {
+    match read_text(alloc, bytes) {
         Ok(drawing) => Ok(drawing),
-        Err(Stop::At(spot)) => Err(refuse_file(alloc, spot.kind, path)),
+        Err(Stop::At(spot)) => Err(refuse_spot(alloc, path, spot)),
         Err(Stop::NoMemory) => Err(ReadStop::NoMemory),
     }
 }
@@ -39,8 +63,8 @@ fn read_drawing<'a, S: Sources>(
 {
     match sources.read(alloc, path, FILE_LIMIT) {
         Ok(Found::Bytes(bytes)) => drawing_of(alloc, path, bytes.as_slice()),
-        Ok(Found::Absent) => Err(refuse_file(alloc, Kind::MissingFile, path)),
-        Ok(Found::TooLong(_)) => Err(refuse_file(alloc, Kind::NotBuilt, path)),
+        Ok(Found::Absent) => Err(refuse_absent(alloc, path)),
+        Ok(Found::TooLong(size)) => Err(refuse_length(alloc, path, size)),
         Err(ReadError::Failed) => Err(ReadStop::ReadFault(path)),
         Err(ReadError::NoMemory) => Err(ReadStop::NoMemory),
     }

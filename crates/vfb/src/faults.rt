@@ -1,8 +1,10 @@
-ghost use Rattle.std.specs.Prelude.{◌≡◌, IfOk, MatchResult};
-ghost use Rattle.vfb.specs.Faults.{file_fault};
-ghost use Rattle.vfb.specs.Masters.{place_fault, range_fault};
+ghost use Rattle.std.specs.Prelude.{◌≡◌, [], IfOk, MatchResult};
+ghost use Rattle.outside.specs.Reading.{spot_of};
+ghost use Rattle.vfb.specs.Faults.{fault_at, file_fault, length_fault};
+ghost use Rattle.vfb.specs.Masters.{difference_fault, place_fault, range_fault};
 ghost use Rattle.vfb.specs.Stops.{Refuses};
 
+use compat::Difference;
 use outside::{Fault, Kind, Name, NoMemory, Spot};
 use std::alloc::Global;
 
@@ -37,28 +39,89 @@ fn stop_with<'a>(fault: Result<Fault, NoMemory>) -> ReadStop<'a>
     }
 }
 
-/// A fault of the file at `path` as a whole.
-fn file_fault(alloc: Global, kind: Kind, path: &str) -> Result<Fault, NoMemory>
-    ensures { IfOk result (λ fault. fault ≡ file_fault kind path.now) }
+/// A fault at a place of the file at `path`.
+fn fault_at(alloc: Global, path: &str, spot: Spot) -> Result<Fault, NoMemory>
+    ensures { IfOk result (λ fault. fault ≡ fault_at path.now spot) }
+{
+    Ok(Fault {
+        path: Name::from_str(alloc, path)?,
+        spot,
+    })
+}
+
+/// Stops with a fault at a place of the file at `path`.
+pub(crate) fn refuse_spot<'a>(alloc: Global, path: &str, spot: Spot) -> ReadStop<'a>
+    ensures { Refuses (fault_at path.now spot) result }
+{
+    stop_with(fault_at(alloc, path, spot))
+}
+
+/// A fault of a file as a whole, with this value.
+fn file_spot(alloc: Global, kind: Kind, first: i64) -> Result<Spot, NoMemory>
+    ensures { IfOk result (λ spot. spot ≡ spot_of kind [] 0 first) }
+{
+    Ok(Spot {
+        kind,
+        item: Name::from_str(alloc, "")?,
+        at: 0,
+        also: 0,
+        first,
+        second: 0,
+    })
+}
+
+/// Stops since there is no file at `path`.
+pub(crate) fn refuse_absent<'a>(alloc: Global, path: &str) -> ReadStop<'a>
+    ensures { Refuses (file_fault Kind.MissingFile path.now) result }
+{
+    match file_spot(alloc, Kind::MissingFile, 0) {
+        Ok(spot) => refuse_spot(alloc, path, spot),
+        Err(NoMemory) => ReadStop::NoMemory,
+    }
+}
+
+/// Stops since the file at `path` has so many bytes.
+pub(crate) fn refuse_length<'a>(alloc: Global, path: &str, size: u64) -> ReadStop<'a>
+    ensures { Refuses (length_fault size path.now) result }
+{
+    match file_spot(alloc, Kind::FileTooLong, size.min(i64::MAX as u64) as i64) {
+        Ok(spot) => refuse_spot(alloc, path, spot),
+        Err(NoMemory) => ReadStop::NoMemory,
+    }
+}
+
+/// A difference of the file at `path` from the default's drawing, whose glyph has this name.
+fn difference_fault(
+    alloc: Global,
+    name: &Name,
+    path: &str,
+    difference: Difference,
+) -> Result<Fault, NoMemory>
+    ensures { IfOk result (λ fault. fault ≡ difference_fault name.now path.now difference) }
 {
     Ok(Fault {
         path: Name::from_str(alloc, path)?,
         spot: Spot {
-            kind,
-            item: Name::from_str(alloc, "")?,
-            at: 0,
-            also: 0,
-            first: 0,
-            second: 0,
+            kind: difference.kind,
+            item: name.try_copy(alloc)?,
+            at: difference.contour,
+            also: difference.point,
+            first: difference.first,
+            second: difference.second,
         },
     })
 }
 
-/// Stops with a fault of the file at `path`.
-pub(crate) fn refuse_file<'a>(alloc: Global, kind: Kind, path: &str) -> ReadStop<'a>
-    ensures { Refuses (file_fault kind path.now) result }
+/// Stops with a difference of the file at `path` from the default's drawing.
+pub(crate) fn refuse_difference<'a>(
+    alloc: Global,
+    name: &Name,
+    path: &str,
+    difference: Difference,
+) -> ReadStop<'a>
+    ensures { Refuses (difference_fault name.now path.now difference) result }
 {
-    stop_with(file_fault(alloc, kind, path))
+    stop_with(difference_fault(alloc, name, path, difference))
 }
 
 /// A fault of the places of the drawings with these two numbers.

@@ -128,7 +128,7 @@ pub(crate) fn gather<'a>(
 {
     let places = places_of(alloc, placed)?;
     let order = ordered(alloc, &places)?;
-    let default = &drawings[order.as_slice()[0] as usize].outline;
+    let default = &drawings[order.as_slice()[0] as usize];
     match all_alike(alloc, default, placed, drawings) {
         Ok(()) => {}
         Err(stop) => return Err(stop),

@@ -3,7 +3,7 @@ use Rattle.std.proofs.lemmas.List.Elements.{All-push}
 use Rattle.std.proofs.lemmas.Result.{err_from_is_err_and}
 use Rattle.variation_rules.specs.PackedPoints.{count_from}
 use Rattle.delta_solve.specs.GlyphModels.{IsNextTuple, IsStopOf, IsTupleWithin, default_of, first_some, misfits_of, next_misfits}
-use Rattle.delta_solve.specs.Outlines.{contour_kinds}
+use Rattle.glif.specs.Shapes.{contour_kinds}
 use Rattle.delta_solve.proofs.Columns.{none_so_far, one_more, all_so_far, misfits_here}
 use Rattle.delta_solve.proofs.GlyphLemmas.{fault_found, fault_passed}
 use Rattle.delta_solve.proofs.glyph.tuples_of.Goals as goal

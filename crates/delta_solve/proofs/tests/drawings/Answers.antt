@@ -3,7 +3,7 @@ use Rattle.std.proofs.lemmas.List.{length_push}
 use Rattle.std.proofs.lemmas.List.Elements.{All-push}
 use Rattle.glif.specs.Limits.{IsWithinLimits}
 use Rattle.glif.specs.declared.shape.Outline.{Outline}
-use Rattle.delta_solve.specs.Outlines.{contour_kinds}
+use Rattle.glif.specs.Shapes.{contour_kinds}
 use Rattle.delta_solve.proofs.tests.drawings.Goals as goal
 
 pub loop-line-preserved : goal.loop-line-preserved

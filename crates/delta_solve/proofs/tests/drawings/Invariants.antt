@@ -1,7 +1,7 @@
 use Rattle.std.proofs.Common.{◌≡◌, true, [], ◌∷◌, All, length}
 use Rattle.glif.specs.Limits.{IsWithinLimits}
 use Rattle.glif.specs.declared.shape.Outline.{Outline}
-use Rattle.delta_solve.specs.Outlines.{contour_kinds}
+use Rattle.glif.specs.Shapes.{contour_kinds}
 use Rattle.delta_solve.proofs.tests.drawings.Given as goal
 
 abbrev pub invariant-loop-line : goal.invariant-loop-line
