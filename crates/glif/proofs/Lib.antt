@@ -1,1 +1,2 @@
 mod Outside
+mod PlainTexts
