@@ -1,2 +1,3 @@
 mod Outside
+mod PlainNumbers
 mod PlainTexts
