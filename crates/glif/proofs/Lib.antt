@@ -1,3 +1,4 @@
 mod Outside
 mod PlainNumbers
+mod PlainPoints
 mod PlainTexts
