@@ -1,14 +1,13 @@
 -- Numbers of plain drawings: each is read as its value.
-use Rattle.std.proofs.Common.{◌≡◌, ℕ, ◌^◌, ◌<◌, ◌≤◌, Bool, true, false, cond, List, [], ◌∷◌, ◌++◌, length, Some, Ok, Result, refl, sym, ap, ◌∙◌, append-nil, arith, rules}
-use Rattle.std.specs.Prelude.{ℤ, pos, neg_ℤ, int_le}
+use Rattle.std.proofs.Common.{◌≡◌, ℕ, ◌^◌, ◌<◌, ◌≤◌, Bool, true, false, cond, List, [], ◌∷◌, length, Some, Ok, refl, sym, ap, ◌∙◌, append-nil, arith, rules}
+use Rattle.std.specs.Prelude.{ℤ, pos, neg_ℤ}
 use Rattle.std.specs.List.{list_all}
 use Rattle.std.specs.Char.{is_ascii_digit}
 use Rattle.std.specs.Str.Parse.{digits_value}
-use Rattle.std.proofs.lemmas.Bool.{cond-true, le-leb}
+use Rattle.std.proofs.lemmas.Bool.{le-leb}
 use Rattle.std.proofs.lemmas.List.Sums.{list_all-from_AllPass}
 use Rattle.std.proofs.lemmas.Str.Parse.{IsNumeralModel, numerals_by_fold, digits_value_short}
-use Rattle.fixpoint.specs.DecimalText.{Decimal, no_sign, minus, Spells, decimal_of, number_after, with_sign, whole_by, whole_of}
-use Rattle.fixpoint.specs.declared.decimal.NumberFault.{NumberFault}
+use Rattle.fixpoint.specs.DecimalText.{Decimal, no_sign, minus, Spells, number_after, with_sign, whole_by, whole_of}
 use Rattle.fixpoint.proofs.DecimalLaws.{decimal_again}
 use Rattle.glif.specs.Plain.{Number, number_text, value_of, IsNumber}
 

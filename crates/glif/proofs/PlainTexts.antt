@@ -13,16 +13,16 @@ use Rattle.std.proofs.lemmas.Str.{IsUtf8-from_ascii, is_utf8-from_IsUtf8}
 use Rattle.std.proofs.lemmas.Str.Ascii.{IsAscii-nil, IsAscii-cons, IsAscii-from_all}
 use Rattle.markup_rules.specs.Bytes.{is_plain, is_name_byte, starts_name}
 use Rattle.markup_rules.specs.Syntax.{IsName, run, content_text, Attribute, attribute_then, IsAttribute, AreAttributes, Tag, tag_then, IsTag, end_tag_then, Inside, only, then_empty, then_child, inside_then, IsInside, undeclared, white, Root, full_root, root_then, IsRoot, root_tree, IsTree}
+use Rattle.markup_rules.specs.Syntax as syntax
 use Rattle.markup_rules.specs.Tree.{Tree}
 use Rattle.markup_rules.specs.Outcome.{outcome}
 use Rattle.markup_rules.proofs.Whole.{tree_again}
-use Rattle.markup_rules.specs.Syntax as syntax
 use Rattle.glif.specs.Plain.{Number, Place, Written, number_text, point_text, contour_text, printing, IsNumber, IsPlace, IsWritten}
 
 -- ---- bytes of names and values
 
 -- letters, digits and the minus sign, which stand for themselves everywhere
-abbrev pub is_bare : ℕ → Bool
+abbrev is_bare : ℕ → Bool
 is_bare b = is_ascii_alphabetic b || (is_ascii_digit b || (b == 45))
 
 letter_bare : (b : ℕ) → is_ascii_alphabetic b ≡ true → is_bare b ≡ true
@@ -54,10 +54,10 @@ bare_utf8 bytes bare =
     let ascii = All-weaker (λ b. is_bare b ≡ true) (λ b. b < 128) bare_ascii bytes (AllPass-from_list_all is_bare bytes bare) in
     is_utf8-from_IsUtf8 bytes (IsUtf8-from_ascii bytes (IsAscii-from_all bytes ascii))
 
-pub letters_bare : (bytes : List ℕ) → list_all is_ascii_alphabetic bytes ≡ true → list_all is_bare bytes ≡ true
+letters_bare : (bytes : List ℕ) → list_all is_ascii_alphabetic bytes ≡ true → list_all is_bare bytes ≡ true
 letters_bare bytes letters = all_in is_ascii_alphabetic is_bare letter_bare bytes letters
 
-pub digits_bare : (bytes : List ℕ) → list_all is_ascii_digit bytes ≡ true → list_all is_bare bytes ≡ true
+digits_bare : (bytes : List ℕ) → list_all is_ascii_digit bytes ≡ true → list_all is_bare bytes ≡ true
 digits_bare bytes digits = all_in is_ascii_digit is_bare digit_bare bytes digits
 
 -- ---- attributes and tags
@@ -115,7 +115,7 @@ point_proper x y bare_x bare_y =
 
 -- ---- numbers as texts
 
-pub number_bare : (n : Number) → IsNumber n → list_all is_bare (number_text n) ≡ true
+number_bare : (n : Number) → IsNumber n → list_all is_bare (number_text n) ≡ true
 number_bare n is = sign_cases n.negative
   where
     digits : list_all is_bare n.digits ≡ true
