@@ -1,4 +1,4 @@
-mod DecimalLaws
+pub mod DecimalLaws
 mod Numbers
 pub mod RoundingLemmas
 mod Runs

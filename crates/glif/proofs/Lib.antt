@@ -1,1 +1,5 @@
 mod Outside
+mod PlainDrawings
+mod PlainNumbers
+mod PlainPoints
+mod PlainTexts

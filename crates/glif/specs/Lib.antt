@@ -6,3 +6,4 @@ pub mod Glyphs
 pub mod Limits
 pub mod Plain
 pub mod Shapes
+pub mod Texts

@@ -5,8 +5,10 @@ mod contour;
 mod glyph;
 mod limits;
 mod outline;
+mod plain;
 mod shape;
 
 pub use glyph::read;
 pub use limits::{coordinate_outside, within};
+pub use plain::plain_law;
 pub use shape::{Component, Drawing, Outline, Point};
