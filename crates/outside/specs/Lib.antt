@@ -2,6 +2,7 @@ pub mod Counting
 pub mod Files
 pub mod FirstAt
 pub mod Found
+pub mod Kept
 pub mod Kinds
 pub mod Answered
 pub mod SureSources

@@ -6,6 +6,7 @@
 mod failures;
 mod fault;
 mod host;
+mod kept;
 mod line;
 mod list;
 mod memory_outputs;

@@ -1,28 +1,30 @@
-ghost use Rattle.std.specs.Prelude.{◌≡◌, ℕ, List, ◌==◌, IfOk, string_bytes};
+ghost use Rattle.std.specs.Prelude.{◌≡◌, ℕ, List, ◌==◌, IfOk};
 ghost use Rattle.std.specs.Cmp.{partial_order_from_own_ties};
 ghost use Rattle.std.specs.Cmp.Rules.{comparing, hashing};
 ghost use Rattle.std.specs.Cmp.Lexicographic.{pointwise, slice_cmp};
 ghost use Rattle.std.specs.Ordering.{nat_cmp, as_partial_cmp};
 ghost use Rattle.std.specs.Hash as fed;
 ghost use Rattle.std.proofs.Common.{rules};
+ghost use Rattle.outside.specs.Kept.{kept_bytes};
 
 use crate::fault::NoMemory;
+use crate::kept::Kept;
 use std::alloc::Global;
 use std::cmp::Ordering;
 use std::hash::{Hash, Hasher};
 use std::marker::Model;
 
 /// A text, as a path or a glyph's name. Contracts see its bytes, which are UTF-8; equality, order and
-/// hash are those of the bytes.
+/// hash are those of the bytes. One of up to 14 bytes takes no memory of its own.
 #[derive(Drop)]
 pub struct Name {
-    text: String,
+    text: Kept,
 }
 
 impl Model for Name {
     ghost Value = { List ℕ };
 
-    ghost view = { λ n. string_bytes n.text };
+    ghost view = { λ n. kept_bytes n.text };
 }
 
 impl Name {
@@ -30,7 +32,7 @@ impl Name {
     pub fn from_str(alloc: Global, text: &str) -> Result<Name, NoMemory>
         ensures { IfOk result (λ name. name ≡ text.now) }
     {
-        let text = String::from_str(alloc, text)?;
+        let text = Kept::from_str(alloc, text)?;
         Ok(Name { text })
     }
 
