@@ -1,1 +1,3 @@
+mod Hexadecimal
 mod Outside
+pub mod ReadLimits
