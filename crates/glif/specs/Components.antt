@@ -1,5 +1,5 @@
 -- What the element `component` draws (UFO 3, "GLIF", "component"), or its first fault.
-use Rattle.std.specs.Prelude.{ℕ, ℤ, pos, negsuc, int_le, ◌&&◌, List, codes, Option, Some, None, Result, Ok, Err, if◌then◌else◌}
+use Rattle.std.specs.Prelude.{ℕ, ℤ, pos, negsuc, int_le, ◌&&◌, List, codes, Option, Some, None, Result, Ok, if◌then◌else◌}
 use Rattle.fixpoint.specs.DecimalText.{fix16_of}
 use Rattle.markup_rules.specs.Tree.{Tree, attribute_of}
 use Rattle.outside.specs.Reading.{◌>>=◌}

@@ -1,5 +1,5 @@
 -- What the element `contour` draws (UFO 3, "GLIF", "contour" and "point"), or its first fault.
-use Rattle.std.specs.Prelude.{ℕ, ◌-◌, pos, negsuc, Bool, true, false, not, ◌&&◌, List, [], ◌∷◌, length, codes, filter, Option, Some, None, Result, Ok, Err, nat_le, slice_get, if◌then◌else◌}
+use Rattle.std.specs.Prelude.{ℕ, ◌-◌, pos, Bool, true, false, not, ◌&&◌, List, [], ◌∷◌, length, codes, filter, Option, Some, None, Result, Ok, Err, nat_le, slice_get, if◌then◌else◌}
 use Rattle.std.specs.Str.{bytes_eq}
 use Rattle.markup_rules.specs.Tree.{Tree, at_of, attribute_of, children_of}
 use Rattle.outside.specs.Reading.{◌>>=◌, each, spot_of}

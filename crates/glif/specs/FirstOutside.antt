@@ -1,6 +1,6 @@
 -- The first number of an outline that is out of limits, in this order: the advance width, contour by contour its
 -- point count and its coordinates by point, x before y, and then the point count of the glyph.
-use Rattle.std.specs.Prelude.{ℕ, ◌-◌, ◌^◌, min, ℤ, pos, negsuc, ◌&&◌, Bool, List, [], ◌∷◌, length, sum_by, Option, Some, None, if◌then◌else◌, int_le}
+use Rattle.std.specs.Prelude.{ℕ, ◌-◌, ◌^◌, min, ℤ, pos, negsuc, ◌&&◌, List, [], ◌∷◌, length, sum_by, Option, Some, None, if◌then◌else◌, int_le}
 use Rattle.std.specs.Option.{option_or}
 use Rattle.glif.specs.declared.shape.Point.{Point}
 use Rattle.glif.specs.declared.shape.Outline.{Outline}

@@ -1,5 +1,5 @@
 -- The drawing of a GLIF, the glyph format of UFO 3, off its tree, or its first fault.
-use Rattle.std.specs.Prelude.{ℕ, ℤ, pos, negsuc, Bool, ◌&&◌, ◌||◌, not, List, [], ◌∷◌, ◌++◌, length, codes, sum_by, Option, Some, None, is_some, unwrap_or, Result, Ok, Err, nat_le, nat_lt, ◌==◌, if◌then◌else◌}
+use Rattle.std.specs.Prelude.{ℕ, ℤ, pos, negsuc, Bool, ◌&&◌, ◌||◌, not, List, [], ◌∷◌, ◌++◌, length, codes, sum_by, Option, Some, None, unwrap_or, Result, Ok, Err, nat_le, nat_lt, ◌==◌, if◌then◌else◌}
 use Rattle.std.specs.List.{list_all, list_any}
 use Rattle.std.specs.Char.{is_ascii_hexdigit}
 use Rattle.std.specs.Str.{bytes_eq}
@@ -18,6 +18,7 @@ use Rattle.glif.specs.declared.glyph.Seen.{Seen}
 use Rattle.glif.specs.Attributes.{fault, is_named, needed, optional}
 use Rattle.glif.specs.Components.{component_of}
 use Rattle.glif.specs.Contours.{contour_of}
+use Rattle.glif.specs.FirstOutside.{point_count}
 
 -- ---- the outline
 
@@ -37,11 +38,11 @@ shape_of shapes tree =
     if is_named (codes "contour") tree then (contour_of tree >>= λ contour. Ok (with_contour shapes contour)) else
     (if is_named (codes "component") tree then (component_of tree >>= λ component. Ok (with_component shapes component)) else fault NotGlif tree)
 
--- at most 4,000 points in all
+-- at most 4,000 points in all; where there are more, their count as limits tell it
 abbrev pub few : Tree → Shapes → Result Shapes Spot
 few tree shapes =
     if nat_le (sum_by length shapes.contours) 4000 then Ok shapes
-    else Err (spot_of TooManyPoints [] (at_of tree) (pos (sum_by length shapes.contours)))
+    else Err (spot_of TooManyPoints [] (at_of tree) (pos (point_count shapes.contours)))
 
 unfoldable pub outline_of : Tree → Result Shapes Spot
 outline_of tree = in_turn shape_of no_shapes (children_of tree) >>= λ shapes. few tree shapes

@@ -1,14 +1,18 @@
-ghost use Rattle.std.specs.Prelude.{◌≡◌, All, IfOk};
-ghost use Rattle.outside.specs.Reading.{Gives};
+ghost use Rattle.std.specs.Prelude.{◌≡◌, List, ℕ, map, codes, All, IfOk, option_map};
+ghost use Rattle.outside.specs.Reading.{Gives, in_turn};
+ghost use Rattle.markup_rules.specs.Tree.{attribute_of};
 ghost use Rattle.markup.specs.Plain.{plain};
-ghost use Rattle.glif.specs.Glyphs.{drawing_of};
+ghost use Rattle.glif.specs.Glyphs.{advance_seen, child_of, drawing_of, drawn, format_of, is_version, nothing_seen, outline_seen, version_of};
 ghost use Rattle.glif.specs.Limits.{IsOffsetWithin, IsWithinLimits};
 ghost use Rattle.glif.specs.declared.shape.Drawing.{Drawing};
 
-use crate::outline::Shapes;
-use crate::shape::Drawing;
+use crate::attributes::{fault, is_named, needed, optional};
+use crate::code::{Codes, read_code};
+use crate::outline::{Shapes, read_outline};
+use crate::shape::{Drawing, Outline};
+use fixpoint::parse_whole;
 use markup::Element;
-use outside::{Seq, Stop};
+use outside::{Kind, Name, Stop, stop_at};
 use std::alloc::Global;
 
 /// What the elements of a `glyph` have given so far.
@@ -17,9 +21,154 @@ pub(crate) struct Seen {
     /// The advance width of the first `advance`, 0 where it has none.
     pub(crate) width: Option<i32>,
     /// The code points, each once.
-    pub(crate) codes: Seq<u32>,
+    pub(crate) codes: Codes,
     /// What the one `outline` draws.
     pub(crate) shapes: Option<Shapes>,
+}
+
+impl Seen {
+    /// No element has given anything.
+    fn new(alloc: Global) -> Seen
+        ensures { result ≡ nothing_seen }
+    {
+        Seen {
+            width: None,
+            codes: Codes::new(alloc),
+            shapes: None,
+        }
+    }
+}
+
+/// What is seen with an `advance`, the first of which counts.
+fn read_advance(alloc: Global, mut seen: Seen, advance: &Element) -> Result<Seen, Stop>
+    ensures { Gives (λ seen. seen) result (advance_seen (plain advance.now) seen seen.width) }
+{
+    if seen.width.is_none() {
+        let width = optional(alloc, 0, "width", advance)?;
+        seen.width = Some(width);
+    }
+    Ok(seen)
+}
+
+/// What is seen with an `outline`, of which there is one at most.
+fn read_shapes(alloc: Global, mut seen: Seen, outline: &Element) -> Result<Seen, Stop>
+    ensures { Gives (λ seen. seen) result (outline_seen (plain outline.now) seen seen.shapes) }
+{
+    if seen.shapes.is_some() {
+        return Err(fault(alloc, Kind::NotGlif, outline));
+    }
+    let shapes = read_outline(alloc, outline)?;
+    seen.shapes = Some(shapes);
+    Ok(seen)
+}
+
+/// What is seen with one more element of the glyph.
+#[tactic(auto, unfolding(crate::specs::Glyphs::child_of))]
+fn read_child(alloc: Global, seen: Seen, element: &Element) -> Result<Seen, Stop>
+    ensures { Gives (λ seen. seen) result (child_of seen (plain element.now)) }
+{
+    if is_named(element, "advance") {
+        let seen = read_advance(alloc, seen, element)?;
+        Ok(seen)
+    } else if is_named(element, "unicode") {
+        let code = read_code(alloc, element)?;
+        let seen = Seen {
+            codes: seen.codes.with(code)?,
+            ..seen
+        };
+        Ok(seen)
+    } else if is_named(element, "outline") {
+        let seen = read_shapes(alloc, seen, element)?;
+        Ok(seen)
+    } else {
+        Ok(seen)
+    }
+}
+
+/// What is seen of all elements of a glyph.
+fn read_children(alloc: Global, elements: &[Element]) -> Result<Seen, Stop>
+    ensures { Gives (λ seen. seen) result (in_turn child_of nothing_seen (map plain elements.now)) }
+{
+    let mut seen = Seen::new(alloc);
+    for element in elements {
+        seen = read_child(alloc, seen, element)?;
+    }
+    Ok(seen)
+}
+
+/// The version that a text tells, or -1 where it tells none.
+fn version_of(format: Option<&str>) -> i64
+    ensures { result ≡ version_of (option_map (λ text. text.now) format.entry) }
+{
+    match format {
+        Some(text) => match parse_whole(text) {
+            Ok(version) => i64::from(version),
+            Err(_) => -1,
+        },
+        None => -1,
+    }
+}
+
+/// Whether the text is a version of the format that is read.
+fn is_version(format: Option<&str>) -> bool
+    ensures { result ≡ is_version (option_map (λ text. text.now) format.entry) }
+{
+    match format {
+        Some(text) => text == "1" || text == "2",
+        None => false,
+    }
+}
+
+/// Tests that the glyph is of a version of the format that is read.
+#[tactic(auto, unfolding(crate::specs::Glyphs::format_of))]
+fn check_format(alloc: Global, glyph: &Element) -> Result<(), Stop>
+    ensures { Gives (λ _. tt) result (format_of (plain glyph.now)) }
+{
+    let format = glyph.attribute("format");
+    if is_version(format) {
+        Ok(())
+    } else {
+        Err(stop_at(alloc, Kind::FormatVersion, "", 0, version_of(format)))
+    }
+}
+
+/// The drawing of a glyph of this name.
+fn drawn(alloc: Global, name: Name, seen: Seen) -> Drawing
+    ensures { result ≡ drawn name seen }
+{
+    let Seen {
+        width,
+        codes,
+        shapes,
+    } = seen;
+    let shapes = match shapes {
+        Some(shapes) => shapes,
+        None => Shapes::new(alloc),
+    };
+    Drawing {
+        name,
+        outline: Outline {
+            advance: width.unwrap_or(0),
+            contours: shapes.contours,
+        },
+        components: shapes.components,
+        codes: codes.into_seq(),
+    }
+}
+
+/// The drawing that a tree means.
+#[tactic(auto, unfolding(crate::specs::Glyphs::drawing_of))]
+fn read_drawing(alloc: Global, tree: &Element) -> Result<Drawing, Stop>
+    ensures { Gives (λ drawing. drawing) result (drawing_of (plain tree.now)) }
+{
+    if !is_named(tree, "glyph") {
+        return Err(fault(alloc, Kind::NotGlif, tree));
+    }
+    check_format(alloc, tree)?;
+    let name = needed(alloc, "name", tree)?;
+    let seen = read_children(alloc, tree.children())?;
+    let name = Name::from_str(alloc, name)?;
+    Ok(drawn(alloc, name, seen))
 }
 
 /// Reads a drawing off the tree of a GLIF (UFO 3, "GLIF", formats 1 and 2).
@@ -30,5 +179,6 @@ pub fn read(alloc: Global, tree: &Element) -> Result<Drawing, Stop>
     ensures limits { IfOk result (λ drawing. IsWithinLimits drawing.outline) }
     ensures offsets { IfOk result (λ (drawing : Drawing). All IsOffsetWithin drawing.components) }
 {
-    Err(Stop::NoMemory)
+    let drawing = read_drawing(alloc, tree)?;
+    Ok(drawing)
 }

@@ -1,14 +1,19 @@
 //! Drawings of glyphs, and their reading from GLIF, the glyph format of UFO 3.
 #![tactic(auto)]
 
+mod attributes;
+mod code;
+mod component;
 mod contour;
 mod glyph;
+mod laws;
 mod limits;
 mod outline;
 mod plain;
 mod shape;
 
 pub use glyph::read;
+pub use laws::limits_law;
 pub use limits::{coordinate_outside, within};
 pub use plain::plain_law;
 pub use shape::{Component, Drawing, Outline, Point};

@@ -73,7 +73,7 @@ fn contours_outside(contours: &[Seq<Point>]) -> Option<i64>
 }
 
 /// How many points the contours have in all. The count stands still at `i64::MAX`.
-fn point_count(contours: &[Seq<Point>]) -> i64
+pub(crate) fn point_count(contours: &[Seq<Point>]) -> i64
     ensures { result ≡ pos (point_count contours.now) }
 {
     let mut count = 0usize;

@@ -1,6 +1,5 @@
-use Rattle.std.proofs.Common.{◌≡◌, None, rules, arith}
+use Rattle.std.proofs.Common.{arith}
 use Rattle.std.proofs.lemmas.Grind.{common_steps}
-use Rattle.glif.specs.FirstOutside.{first_outside}
 use Rattle.glif.proofs.Outside.{none_within, within_none}
 use Rattle.glif.proofs.limits.within.Goals as goal
 
