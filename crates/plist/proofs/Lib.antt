@@ -1,0 +1,3 @@
+mod EqualKeys
+mod Forms
+mod PlainLemmas

@@ -1,0 +1,26 @@
+ghost use Rattle.std.specs.Prelude.{◌≡◌, IfOk};
+ghost use Rattle.plist.specs.Entries.{firsts};
+
+use crate::value::Value;
+use outside::{Name, NoMemory};
+use std::alloc::Global;
+use std::collections::BTreeSet;
+
+/// Of entries with equal keys the first alone, in order.
+pub(crate) fn first_of_each(
+    alloc: Global,
+    entries: Vec<(Name, Value)>,
+) -> Result<Vec<(Name, Value)>, NoMemory>
+    ensures { IfOk result (λ kept. kept.items ≡ firsts entries.items) }
+{
+    let mut keys = BTreeSet::new(alloc);
+    let mut kept = Vec::new(alloc);
+    for (key, value) in entries {
+        let copy = key.try_copy(alloc)?;
+        let is_new = keys.insert(copy)?;
+        if is_new {
+            kept.push((key, value))?;
+        }
+    }
+    Ok(kept)
+}

@@ -1,0 +1,191 @@
+ghost use Rattle.std.specs.Prelude.{◌≡◌, List, map};
+ghost use Rattle.outside.specs.Reading.{Gives, IsStop, each};
+ghost use Rattle.markup_rules.specs.Tree.{trees_of};
+ghost use Rattle.markup.specs.Plain.{plain};
+ghost use Rattle.plist.specs.PropertyLists as rules;
+ghost use Rattle.plist.specs.PropertyLists.{value_at, value_of};
+ghost use Rattle.plist.specs.Values as value;
+ghost use Rattle.plist.specs.Values.{plain_value, plain_entry};
+
+use crate::entries::first_of_each;
+use crate::form::{Form, form_of};
+use crate::value::Value;
+use markup::Element;
+use outside::{Kind, Name, Stop, stop_at};
+use std::alloc::Global;
+
+/// The stop at an element that may not stand at its place, or that lacks a child.
+fn fault(alloc: Global, element: &Element) -> Stop
+    ensures { IsStop result (rules.spot_at (plain element.now)) }
+{
+    stop_at(alloc, Kind::NotPlist, "", element.place(), 0)
+}
+
+/// Stops at the first of these elements, where no element may stand.
+fn nothing(alloc: Global, elements: &[Element]) -> Result<(), Stop>
+    ensures { Gives (λ done. done) result (rules.nothing (map plain elements.now)) }
+{
+    match elements {
+        [] => Ok(()),
+        [element, ..] => Err(fault(alloc, element)),
+    }
+}
+
+/// The text of an element without children.
+#[tactic(auto, unfolding(crate::specs::PropertyLists::own_text))]
+fn own_text(alloc: Global, element: &Element) -> Result<Name, Stop>
+    ensures { Gives (λ text. text) result (rules.own_text (plain element.now)) }
+{
+    nothing(alloc, element.children())?;
+    let text = Name::from_str(alloc, element.text())?;
+    Ok(text)
+}
+
+/// The text of a `key`.
+#[tactic(auto, unfolding(crate::specs::PropertyLists::key_of))]
+fn read_key(alloc: Global, element: &Element) -> Result<Name, Stop>
+    ensures { Gives (λ key. key) result (rules.key_of (plain element.now)) }
+{
+    if element.name() == "key" {
+        own_text(alloc, element)
+    } else {
+        Err(fault(alloc, element))
+    }
+}
+
+/// The value of a `string`.
+fn read_text(alloc: Global, element: &Element) -> Result<Value, Stop>
+    ensures { Gives plain_value result (rules.text_of_element value.text (plain element.now)) }
+{
+    let text = own_text(alloc, element)?;
+    Ok(Value::Text(text))
+}
+
+/// The value of an `integer` or a `real`.
+fn read_number(alloc: Global, element: &Element) -> Result<Value, Stop>
+    ensures { Gives plain_value result (rules.text_of_element value.number (plain element.now)) }
+{
+    let text = own_text(alloc, element)?;
+    Ok(Value::Number(text))
+}
+
+/// The value of a `true` or a `false`.
+fn read_bool(alloc: Global, element: &Element, holds: bool) -> Result<Value, Stop>
+    ensures { Gives plain_value result (rules.alone (value.truth holds) (plain element.now)) }
+{
+    nothing(alloc, element.children())?;
+    Ok(Value::Bool(holds))
+}
+
+/// The value of a `date` or a `data`.
+fn read_other(alloc: Global, element: &Element) -> Result<Value, Stop>
+    ensures { Gives plain_value result (rules.alone value.other (plain element.now)) }
+{
+    nothing(alloc, element.children())?;
+    Ok(Value::Other)
+}
+
+/// The values that elements are, in order.
+#[cycle(plist)]
+fn read_items(alloc: Global, elements: &[Element]) -> Result<Vec<Value>, Stop>
+    ensures { Gives (λ values. map plain_value values.items) result (rules.items_of (trees_of (map plain elements.now))) }
+{
+    let mut values = Vec::new(alloc);
+    for element in elements {
+        let value = read_value(alloc, element)?;
+        values.push(value)?;
+    }
+    Ok(values)
+}
+
+/// The value of an `array`.
+#[cycle(plist)]
+#[tactic(auto, using(markup::proofs::PlainLemmas::children_plain, crate::proofs::PlainLemmas::plain_array))]
+fn read_array(alloc: Global, element: &Element) -> Result<Value, Stop>
+    ensures { Gives plain_value result (rules.array_of (plain element.now)) }
+{
+    let values = read_items(alloc, &element.children)?;
+    Ok(Value::Array(values))
+}
+
+/// The entries of a `dict`, a key and a value each, in order.
+#[cycle(plist)]
+fn read_entries(
+    alloc: Global,
+    elements: &[Element],
+    dict: &Element,
+) -> Result<Vec<(Name, Value)>, Stop>
+    ensures { Gives (λ entries. map plain_entry entries.items) result (rules.entries_of (plain dict.now) (trees_of (map plain elements.now))) }
+{
+    let mut entries = Vec::new(alloc);
+    let mut pending = None;
+    for element in elements {
+        pending = match pending {
+            None => Some(read_key(alloc, element)?),
+            Some(key) => {
+                let value = read_value(alloc, element)?;
+                entries.push((key, value))?;
+                None
+            }
+        };
+    }
+    match pending {
+        None => Ok(entries),
+        Some(_) => Err(fault(alloc, dict)),
+    }
+}
+
+/// The value of a `dict`.
+#[cycle(plist)]
+#[tactic(auto, using(markup::proofs::PlainLemmas::children_plain, crate::proofs::PlainLemmas::plain_dict, crate::proofs::EqualKeys::plain_firsts))]
+fn read_dict(alloc: Global, element: &Element) -> Result<Value, Stop>
+    ensures { Gives plain_value result (rules.dict_of (plain element.now)) }
+{
+    let entries = read_entries(alloc, &element.children, element)?;
+    let entries = first_of_each(alloc, entries)?;
+    Ok(Value::Dict(entries))
+}
+
+/// The value that an element at a value's place is.
+#[cycle(plist)]
+#[tactic(auto, using(crate::proofs::Forms::value_is))]
+fn read_value(alloc: Global, element: &Element) -> Result<Value, Stop>
+    ensures { Gives plain_value result (value_at (plain element.now)) }
+{
+    match form_of(element.name()) {
+        Form::Text => read_text(alloc, element),
+        Form::Number => read_number(alloc, element),
+        Form::True => read_bool(alloc, element, true),
+        Form::False => read_bool(alloc, element, false),
+        Form::Array => read_array(alloc, element),
+        Form::Dict => read_dict(alloc, element),
+        Form::Unread => read_other(alloc, element),
+        Form::Unknown => Err(fault(alloc, element)),
+    }
+}
+
+/// The value of the one element in a `plist`.
+fn read_only(alloc: Global, list: &Element, elements: &[Element]) -> Result<Value, Stop>
+    ensures { Gives plain_value result (rules.only (plain list.now) (map plain elements.now)) }
+{
+    match elements {
+        [] => Err(fault(alloc, list)),
+        [first, later @ ..] => {
+            let value = read_value(alloc, first)?;
+            nothing(alloc, later)?;
+            Ok(value)
+        }
+    }
+}
+
+/// Reads the value off the tree of a property list (UFO 3, "XML Property List Format").
+#[tactic(auto, unfolding(crate::specs::PropertyLists::value_of))]
+pub fn read(alloc: Global, tree: &Element) -> Result<Value, Stop>
+    ensures exact { Gives plain_value result (value_of (plain tree.now)) }
+{
+    if tree.name() == "plist" {
+        read_only(alloc, tree, tree.children())
+    } else {
+        Err(fault(alloc, tree))
+    }
+}
