@@ -6,8 +6,7 @@ use Rattle.outside.specs.declared.fault.Kind.{Kind}
 use Rattle.outside.specs.declared.fault.Kind.TheVariants.{MissingFile, FileTooLong, DanglingComponent}
 use Rattle.outside.specs.declared.fault.Fault.{Fault}
 use Rattle.outside.specs.declared.fault.Spot.{Spot}
-use Rattle.markup_rules.specs.Outcome.{outcome}
-use Rattle.glif.specs.Glyphs.{drawing_of}
+use Rattle.glif.specs.Texts.{drawing_of_text}
 use Rattle.glif.specs.declared.shape.Component.{Component}
 use Rattle.glif.specs.declared.shape.Drawing.{Drawing}
 use Rattle.vfb.specs.Command.{Placed}
@@ -22,9 +21,9 @@ alone_by drawing (component ∷ components) = Err (spot_of DanglingComponent dra
 abbrev pub alone : Drawing → Result Drawing Spot
 alone drawing = alone_by drawing drawing.components
 
--- a text is that of a GLIF, whose tree is a drawing's
+-- a text is that of a GLIF, and its drawing stands alone
 unfoldable pub read_as : List ℕ → Result Drawing Spot
-read_as text = outcome text >>= λ tree. drawing_of tree >>= λ drawing. alone drawing
+read_as text = drawing_of_text text >>= λ drawing. alone drawing
 
 -- ---- what a file draws
 

@@ -1,6 +1,7 @@
 ghost use Rattle.std.specs.Prelude.{◌≡◌, length, map, All, IfOk};
 ghost use Rattle.outside.specs.Reading.{Gives};
 ghost use Rattle.glif.specs.Limits.{IsWithinLimits};
+ghost use Rattle.glif.specs.Texts.{drawing_of_text};
 ghost use Rattle.glif.specs.declared.shape.Drawing.{Drawing};
 ghost use Rattle.vfb.specs.Faults.{alone, drawing_in, drawings_of, in_file, read_as};
 ghost use Rattle.vfb.specs.Stops.{StopsAt, IsReadFrom, NeverFails, Reads};
@@ -28,13 +29,22 @@ fn alone(alloc: Global, drawing: Drawing) -> Result<Drawing, Stop>
 }
 
 /// The drawing that a text is as a GLIF.
+fn drawing_of_text(alloc: Global, text: &[u8]) -> Result<Drawing, Stop>
+    ensures gives { Gives (λ drawing. drawing) result (drawing_of_text text.now) }
+    ensures within { IfOk result (λ drawing. IsWithinLimits drawing.outline) }
+{
+    let tree = markup::read(alloc, text)?;
+    let drawing = glif::read(alloc, &tree)?;
+    Ok(drawing)
+}
+
+/// The drawing that a text is as a GLIF, if it has no components.
 #[tactic(auto, unfolding(crate::specs::Faults::read_as))]
 fn read_text(alloc: Global, text: &[u8]) -> Result<Drawing, Stop>
     ensures gives { Gives (λ drawing. drawing) result (read_as text.now) }
     ensures within { IfOk result (λ drawing. IsWithinLimits drawing.outline) }
 {
-    let tree = markup::read(alloc, text)?;
-    let drawing = glif::read(alloc, &tree)?;
+    let drawing = drawing_of_text(alloc, text)?;
     let drawing = alone(alloc, drawing)?;
     Ok(drawing)
 }

@@ -11,6 +11,7 @@ use std::test::Fail;
 
 mod drawn;
 mod several;
+mod whole;
 
 /// A triangle with the corners (100, 0), (200, 0) and (100, 100).
 const TRIANGLE: &str = r#"<glyph name="a" format="2">
@@ -177,31 +178,31 @@ const CASES: [Case; 14] = [
     },
     Case {
         words: WORDS,
-        files: &[("a.glif", "?")],
+        files: &[("a.glif", " ?")],
         status: 1,
-        said: "refused NotBuilt a.glif - 0 0 0 0\n",
+        said: "refused BadText a.glif - 0 0 0 0\n",
         held: None,
     },
     Case {
         words: WORDS,
         files: &[("a.glif", TRIANGLE), ("b.glif", "")],
         status: 1,
-        said: "refused NotBuilt b.glif - 0 0 0 0\n",
+        said: "refused Unfinished b.glif - 0 0 0 0\n",
         held: None,
     },
     Case {
         words: WORDS,
         files: &[("a.glif", TRIANGLE), ("b.glif", PARTED)],
         status: 1,
-        said: "refused NotBuilt b.glif - 0 0 0 0\n",
+        said: "refused ContourCount b.glif a 0 0 1 2\n",
         held: None,
     },
     // Two faults at once, of which the earlier in the order of the work is answered.
     Case {
         words: WORDS,
-        files: &[("a.glif", "?"), ("b.glif", "?")],
+        files: &[("a.glif", "?"), ("b.glif", "<")],
         status: 1,
-        said: "refused NotBuilt a.glif - 0 0 0 0\n",
+        said: "refused BadText a.glif - 0 0 0 0\n",
         held: None,
     },
     Case {
@@ -231,7 +232,7 @@ const CASES: [Case; 14] = [
         words: &["vfb", "tuples", "o.bin", "a.glif@5", "b.glif@0"],
         files: &[("a.glif", TRIANGLE), ("b.glif", PARTED)],
         status: 1,
-        said: "refused NotBuilt a.glif - 0 0 0 0\n",
+        said: "refused ContourCount a.glif a 0 0 2 1\n",
         held: None,
     },
 ];
@@ -320,19 +321,24 @@ fn check(
     Ok(())
 }
 
+/// Runs as the case says, and compares what comes of it.
+fn check_case(rt: &impl Abort, alloc: Global, case: &Case) -> Result<(), Fail> {
+    check(
+        rt,
+        alloc,
+        case.words,
+        case.files,
+        case.status,
+        case.said,
+        case.held,
+    )
+}
+
 #[test]
 fn answers_for_words_and_files(rt: HostRuntime) -> Result<(), Fail> {
     let alloc = rt.alloc();
     for case in &CASES {
-        check(
-            &rt,
-            alloc,
-            case.words,
-            case.files,
-            case.status,
-            case.said,
-            case.held,
-        )?;
+        check_case(&rt, alloc, case)?;
     }
     for words in USAGES {
         check(&rt, alloc, words, &[], 2, "usage words\n", None)?;
@@ -377,7 +383,7 @@ fn refuses_a_long_file(rt: HostRuntime) -> Result<(), Fail> {
     assert_eq!(rt; status.number(), 1);
     assert_eq!(rt;
         say.said(),
-        b"refused NotBuilt a.glif - 0 0 0 0\n".as_slice()
+        b"refused FileTooLong a.glif - 0 0 67108865 0\n".as_slice()
     );
     Ok(())
 }

@@ -105,7 +105,7 @@ fn compares_contours_before_deltas(rt: HostRuntime) -> Result<(), Fail> {
     assert_eq!(rt; status, 1);
     assert_eq!(rt;
         said.as_slice(),
-        b"refused NotBuilt 4 - 0 0 0 0\n".as_slice()
+        b"refused ContourCount 4 p 0 0 1 0\n".as_slice()
     );
     Ok(())
 }

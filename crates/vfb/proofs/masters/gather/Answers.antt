@@ -12,22 +12,22 @@ pub returns-in-Err-clause-gathers : goal.returns-in-Err-clause-gathers
 returns-in-Err-clause-gathers c =
     let each = one_place_each c.in_ok-places.places c.args.placed.now c.args.drawings.now c.in_ok-places.ensures c.requires.one_each in
     let below = first_below c.in_ok-places.places c.args.drawings.now c.in_ok-order.order c.as_slice.result.now c.as_slice.ensures c.in_ok-order.ensures.masters each in
-    let default = default_is c.args.drawings.now c.in_ok-order.order c.as_slice.result.now c.index-drawings-as_slice.result c.as_slice.ensures below in
-    gathered_stop (map seen c.args.placed.now) c.args.drawings.now (places_of c.in_ok-places.places) c.in_ok-order.order (get_or c.args.drawings.now (get_or c.as_slice.result.now 0 0) c.index-drawings-as_slice.result) c.in-Err.stop
+    let default = c.index-drawings-as_slice.is ∙ default_is c.args.drawings.now c.in_ok-order.order c.as_slice.result.now c.index-drawings-as_slice.result c.as_slice.ensures below in
+    gathered_stop (map seen c.args.placed.now) c.args.drawings.now (places_of c.in_ok-places.places) c.in_ok-order.order c.index-drawings-as_slice.result c.in-Err.stop
     c.in_ok-places.ensures c.in_ok-order.ensures.order default c.in-Err.ensures.alike
 
 pub returns-clause-gathers : goal.returns-clause-gathers
 returns-clause-gathers c =
     let each = one_place_each c.in_ok-places.places c.args.placed.now c.args.drawings.now c.in_ok-places.ensures c.requires.one_each in
     let below = first_below c.in_ok-places.places c.args.drawings.now c.in_ok-order.order c.as_slice.result.now c.as_slice.ensures c.in_ok-order.ensures.masters each in
-    let default = default_is c.args.drawings.now c.in_ok-order.order c.as_slice.result.now c.index-drawings-as_slice.result c.as_slice.ensures below in
-    gathered_ok (map seen c.args.placed.now) c.args.drawings.now (places_of c.in_ok-places.places) c.in_ok-order.order (get_or c.args.drawings.now (get_or c.as_slice.result.now 0 0) c.index-drawings-as_slice.result) _
+    let default = c.index-drawings-as_slice.is ∙ default_is c.args.drawings.now c.in_ok-order.order c.as_slice.result.now c.index-drawings-as_slice.result c.as_slice.ensures below in
+    gathered_ok (map seen c.args.placed.now) c.args.drawings.now (places_of c.in_ok-places.places) c.in_ok-order.order c.index-drawings-as_slice.result _
     c.in_ok-places.ensures c.in_ok-order.ensures.order default c.in-Ok.ensures.alike c.in_ok-masters.ensures
 
 pub returns-clause-gathered : goal.returns-clause-gathered
 returns-clause-gathered c =
     let each = one_place_each c.in_ok-places.places c.args.placed.now c.args.drawings.now c.in_ok-places.ensures c.requires.one_each in
     let below = first_below c.in_ok-places.places c.args.drawings.now c.in_ok-order.order c.as_slice.result.now c.as_slice.ensures c.in_ok-order.ensures.masters each in
-    let default = default_is c.args.drawings.now c.in_ok-order.order c.as_slice.result.now c.index-drawings-as_slice.result c.as_slice.ensures below in
-    are_gathered (map seen c.args.placed.now) c.args.drawings.now (places_of c.in_ok-places.places) c.in_ok-order.order (get_or c.args.drawings.now (get_or c.as_slice.result.now 0 0) c.index-drawings-as_slice.result) _
+    let default = c.index-drawings-as_slice.is ∙ default_is c.args.drawings.now c.in_ok-order.order c.as_slice.result.now c.index-drawings-as_slice.result c.as_slice.ensures below in
+    are_gathered (map seen c.args.placed.now) c.args.drawings.now (places_of c.in_ok-places.places) c.in_ok-order.order c.index-drawings-as_slice.result _
     c.requires.placed (c.requires.one_each ∙ sym (length-map c.args.placed.now seen)) c.requires.within c.in_ok-places.ensures c.in_ok-order.ensures.masters default c.in-Ok.ensures.alike c.in_ok-masters.ensures
