@@ -8,3 +8,6 @@ mod value;
 
 pub use reader::read;
 pub use value::Value;
+
+#[cfg(test)]
+mod tests;
