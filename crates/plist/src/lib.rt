@@ -3,9 +3,11 @@
 
 mod entries;
 mod form;
+mod laws;
 mod reader;
 mod value;
 
+pub use laws::{first_key_law, property_list_law};
 pub use reader::read;
 pub use value::Value;
 

@@ -1,6 +1,6 @@
-ghost use Rattle.std.specs.Prelude.{◌≡◌, map, option_map, option_and_then};
+ghost use Rattle.std.specs.Prelude.{◌≡◌, map, option_map};
 ghost use Rattle.plist.specs.Values as plain;
-ghost use Rattle.plist.specs.Values.{at_key, plain_entry, plain_value};
+ghost use Rattle.plist.specs.Values.{plain_entry, plain_value};
 
 use outside::Name;
 
@@ -76,7 +76,7 @@ impl Value {
 
     /// The value of a key, if it is a `dict` with this key.
     pub fn get(&self, key: &str) -> Option<&Value>
-        ensures { option_map (λ value. plain_value value.now) result ≡ option_and_then (at_key key.now) (plain.as_dict (plain_value self.now)) }
+        ensures { option_map (λ value. plain_value value.now) result ≡ plain.get key.now (plain_value self.now) }
     {
         for (name, value) in self.as_dict()? {
             if name.as_str() == key {

@@ -1,4 +1,4 @@
-use Rattle.std.proofs.Common.{◌≡◌, true, false, not, ◌++◌, [], ◌∷◌, sym, ap, ◌∙◌}
+use Rattle.std.proofs.Common.{true, false, ◌++◌, sym, ap, ◌∙◌}
 use Rattle.std.specs.Vec.Iter.{into_iter_items}
 use Rattle.plist.proofs.EqualKeys.{Turn, has, unseen, unseen_first, passed, added}
 use Rattle.plist.proofs.entries.first_of_each.Goals as goal
