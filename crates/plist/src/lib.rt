@@ -1,4 +1,5 @@
-//! The values of Apple's property lists in XML, the form of UFO 3's information files.
+//! Values of property lists in XML, in which UFO 3 keeps all but its glyphs: read off the tree of a source text,
+//! or refused for the first fault.
 #![tactic(auto)]
 
 mod entries;

@@ -56,7 +56,7 @@ fn read_key(alloc: Global, element: &Element) -> Result<Name, Stop>
 
 /// The value of a `string`.
 fn read_text(alloc: Global, element: &Element) -> Result<Value, Stop>
-    ensures { Gives plain_value result (rules.text_of_element value.text (plain element.now)) }
+    ensures { Gives plain_value result (rules.text_value value.text (plain element.now)) }
 {
     let text = own_text(alloc, element)?;
     Ok(Value::Text(text))
@@ -64,7 +64,7 @@ fn read_text(alloc: Global, element: &Element) -> Result<Value, Stop>
 
 /// The value of an `integer` or a `real`.
 fn read_number(alloc: Global, element: &Element) -> Result<Value, Stop>
-    ensures { Gives plain_value result (rules.text_of_element value.number (plain element.now)) }
+    ensures { Gives plain_value result (rules.text_value value.number (plain element.now)) }
 {
     let text = own_text(alloc, element)?;
     Ok(Value::Number(text))
@@ -72,7 +72,7 @@ fn read_number(alloc: Global, element: &Element) -> Result<Value, Stop>
 
 /// The value of a `true` or a `false`.
 fn read_bool(alloc: Global, element: &Element, holds: bool) -> Result<Value, Stop>
-    ensures { Gives plain_value result (rules.alone (value.truth holds) (plain element.now)) }
+    ensures { Gives plain_value result (rules.leaf_value (value.truth holds) (plain element.now)) }
 {
     nothing(alloc, element.children())?;
     Ok(Value::Bool(holds))
@@ -80,7 +80,7 @@ fn read_bool(alloc: Global, element: &Element, holds: bool) -> Result<Value, Sto
 
 /// The value of a `date` or a `data`.
 fn read_other(alloc: Global, element: &Element) -> Result<Value, Stop>
-    ensures { Gives plain_value result (rules.alone value.other (plain element.now)) }
+    ensures { Gives plain_value result (rules.leaf_value value.other (plain element.now)) }
 {
     nothing(alloc, element.children())?;
     Ok(Value::Other)
@@ -191,10 +191,10 @@ fn read_list(alloc: Global, tree: &Element) -> Result<Value, Stop>
     }
 }
 
-/// Reads the value of a property list off its tree. Property lists are Apple's in XML, as UFO 3 uses them
-/// ("XML Property List Format"): a `plist` with one value in it. A value is a `string`, which gives its text;
-/// an `integer` or a `real`, which gives its text as a number; a `true` or a `false`; an `array` of values; a
-/// `dict` of keys with a value each, where of equal keys the first counts, and is the only one in the value;
+/// Reads the value of a property list off its tree. Property lists are Apple's in XML (PropertyList-1.0.dtd), in
+/// which UFO 3 keeps all but its glyphs: a `plist` with one value in it. A value is a `string`, which gives its
+/// text; an `integer` or a `real`, which gives its text as a number; a `true` or a `false`; an `array` of values;
+/// a `dict` of keys with a value each, where of equal keys the first counts, and is the only one in the value;
 /// or a `date` or a `data`, which aren't read. Texts and keys are as they stand, with the blanks round them.
 /// Attributes, and texts between elements, mean nothing.
 ///
