@@ -3,7 +3,7 @@ use Rattle.std.proofs.Common.{◌≡◌, ℕ, Bool, true, false, not, cond, ◌&
 use Rattle.std.specs.Prelude.{filter}
 use Rattle.std.specs.Str.{bytes_eq}
 use Rattle.std.specs.Cmp.Lexicographic.{slice_cmp}
-use Rattle.std.specs.Ordering.{nat_cmp, is_eq}
+use Rattle.std.specs.Ordering.{nat_cmp}
 use Rattle.std.specs.BTreeSet as sorted
 use Rattle.std.specs.BTreeSet.{BTreeSet}
 use Rattle.std.proofs.lemmas.Map.Text.{is_eq-slice_cmp}
@@ -69,15 +69,17 @@ turned {V} old new entry copy is_new entries turn =
     ∙ ap (λ b. cond {A = List (List ℕ × V)} b (entry ∷ unseen (has new) entries) (unseen (has new) entries)) (sym (subst Told turn.copied turn.told))
 
 -- an entry whose key was met is passed over
-pub passed : {V : Type 0} (kept : List (List ℕ × V)) (old new : Keys) (entry : List ℕ × V) (copy : List ℕ) (entries : List (List ℕ × V)) → Turn old new entry.0 copy false
-    → kept ++ unseen (has new) entries ≡ kept ++ unseen (has old) (entry ∷ entries)
-passed kept old new entry copy entries turn = ap (λ later. kept ++ later) (sym (turned old new entry copy false entries turn))
+pub passed : {V : Type 0} (kept : List (List ℕ × V)) (old new : Keys) (entry : List ℕ × V) (copy : List ℕ) (is_new : Bool) (entries all : List (List ℕ × V))
+    → Turn old new entry.0 copy is_new → is_new ≡ false → all ≡ entry ∷ entries → kept ++ unseen (has new) entries ≡ kept ++ unseen (has old) all
+passed {V} kept old new entry copy is_new entries all turn met e =
+    ap (λ later. kept ++ later) (sym (ap (unseen (has old)) e ∙ (turned old new entry copy is_new entries turn ∙ ap (λ b. cond {A = List (List ℕ × V)} b (entry ∷ unseen (has new) entries) (unseen (has new) entries)) met)))
 
 -- and one with a new key is kept
-pub added : {V : Type 0} (kept : List (List ℕ × V)) (old new : Keys) (entry : List ℕ × V) (copy : List ℕ) (entries : List (List ℕ × V)) → Turn old new entry.0 copy true
-    → (kept ++ entry ∷ []) ++ unseen (has new) entries ≡ kept ++ unseen (has old) (entry ∷ entries)
-added kept old new entry copy entries turn =
-    append_assoc kept (entry ∷ []) (unseen (has new) entries) ∙ ap (λ later. kept ++ later) (sym (turned old new entry copy true entries turn))
+pub added : {V : Type 0} (kept more : List (List ℕ × V)) (old new : Keys) (entry : List ℕ × V) (copy : List ℕ) (is_new : Bool) (entries all : List (List ℕ × V))
+    → Turn old new entry.0 copy is_new → is_new ≡ true → all ≡ entry ∷ entries → more ≡ kept ++ entry ∷ [] → more ++ unseen (has new) entries ≡ kept ++ unseen (has old) all
+added {V} kept more old new entry copy is_new entries all turn unmet e pushed =
+    ap (λ front. front ++ unseen (has new) entries) pushed ∙ (append_assoc kept (entry ∷ []) (unseen (has new) entries)
+    ∙ ap (λ later. kept ++ later) (sym (ap (unseen (has old)) e ∙ (turned old new entry copy is_new entries turn ∙ ap (λ b. cond {A = List (List ℕ × V)} b (entry ∷ unseen (has new) entries) (unseen (has new) entries)) unmet))))
 
 -- ---- the entries as plain ones
 

@@ -1,3 +1,4 @@
 pub mod Entries
-pub mod PropertyLists
+pub mod Reading
+pub mod Syntax
 pub mod Values

@@ -1,7 +1,6 @@
 -- The values of property lists, without how code keeps them.
-use Rattle.std.specs.Prelude.{ℕ, Bool, List, [], ◌∷◌, Option, Some, None, map, option_map, if◌then◌else◌}
+use Rattle.std.specs.Prelude.{ℕ, Bool, List, [], ◌∷◌, Option, Some, None, option_and_then, if◌then◌else◌}
 use Rattle.std.specs.Str.{bytes_eq}
-use Rattle.std.specs.List.{find}
 use Rattle.plist.specs.declared.value.Value.{Value}
 use Rattle.plist.specs.declared.value.Value.TheOpen as open_value
 use Rattle.plist.specs.declared.value.Value.TheOpen.{Value-F}
@@ -65,10 +64,13 @@ abbrev pub as_dict : PlainValue → Option (List Entry)
 as_dict (dict entries) = Some (entries_in entries)
 as_dict _ = None
 
--- the value of a key among entries
+-- the value of a key, that of the first entry with it
 abbrev pub at_key : List ℕ → List Entry → Option PlainValue
 at_key key [] = None
 at_key key (entry ∷ entries) = if bytes_eq entry.0 key then Some entry.1 else at_key key entries
+
+abbrev pub get : List ℕ → PlainValue → Option PlainValue
+get key value = option_and_then (at_key key) (as_dict value)
 
 -- ---- the value that code holds
 

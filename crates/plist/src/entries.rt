@@ -15,12 +15,13 @@ pub(crate) fn first_of_each(
 {
     let mut keys = BTreeSet::new(alloc);
     let mut kept = Vec::new(alloc);
-    for (key, value) in entries {
-        let copy = key.try_copy(alloc)?;
-        let is_new = keys.insert(copy)?;
-        if is_new {
-            kept.push((key, value))?;
+    for entry in entries {
+        let key = entry.0.try_copy(alloc)?;
+        let is_new = keys.insert(key)?;
+        if !is_new {
+            continue;
         }
+        kept.push(entry)?;
     }
     Ok(kept)
 }

@@ -1,5 +1,5 @@
 ghost use Rattle.std.specs.Prelude.{◌≡◌};
-ghost use Rattle.plist.specs.PropertyLists.{form_of};
+ghost use Rattle.plist.specs.Reading.{form_of};
 
 /// The form of a value, by the name of its element.
 #[derive(Clone, Copy, PartialEq, Eq)]

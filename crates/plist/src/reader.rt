@@ -1,11 +1,12 @@
-ghost use Rattle.std.specs.Prelude.{◌≡◌, List, map};
+ghost use Rattle.std.specs.Prelude.{◌≡◌, IfOk, List, Ok, map};
 ghost use Rattle.outside.specs.Reading.{Gives, IsStop, each};
 ghost use Rattle.markup_rules.specs.Tree.{trees_of};
 ghost use Rattle.markup.specs.Plain.{plain};
-ghost use Rattle.plist.specs.PropertyLists as rules;
-ghost use Rattle.plist.specs.PropertyLists.{value_at, value_of};
+ghost use Rattle.plist.specs.Reading as rules;
+ghost use Rattle.plist.specs.Reading.{value_at, value_of};
+ghost use Rattle.plist.specs.Syntax.{HasEachKeyOnce, IsPropertyList};
 ghost use Rattle.plist.specs.Values as value;
-ghost use Rattle.plist.specs.Values.{plain_value, plain_entry};
+ghost use Rattle.plist.specs.Values.{PlainValue, plain_entry, plain_value};
 
 use crate::entries::first_of_each;
 use crate::form::{Form, form_of};
@@ -32,7 +33,7 @@ fn nothing(alloc: Global, elements: &[Element]) -> Result<(), Stop>
 }
 
 /// The text of an element without children.
-#[tactic(auto, unfolding(crate::specs::PropertyLists::own_text))]
+#[tactic(auto, unfolding(crate::specs::Reading::own_text))]
 fn own_text(alloc: Global, element: &Element) -> Result<Name, Stop>
     ensures { Gives (λ text. text) result (rules.own_text (plain element.now)) }
 {
@@ -42,7 +43,7 @@ fn own_text(alloc: Global, element: &Element) -> Result<Name, Stop>
 }
 
 /// The text of a `key`.
-#[tactic(auto, unfolding(crate::specs::PropertyLists::key_of))]
+#[tactic(auto, unfolding(crate::specs::Reading::key_of))]
 fn read_key(alloc: Global, element: &Element) -> Result<Name, Stop>
     ensures { Gives (λ key. key) result (rules.key_of (plain element.now)) }
 {
@@ -55,7 +56,7 @@ fn read_key(alloc: Global, element: &Element) -> Result<Name, Stop>
 
 /// The value of a `string`.
 fn read_text(alloc: Global, element: &Element) -> Result<Value, Stop>
-    ensures { Gives plain_value result (rules.text_of_element value.text (plain element.now)) }
+    ensures { Gives plain_value result (rules.text_value value.text (plain element.now)) }
 {
     let text = own_text(alloc, element)?;
     Ok(Value::Text(text))
@@ -63,7 +64,7 @@ fn read_text(alloc: Global, element: &Element) -> Result<Value, Stop>
 
 /// The value of an `integer` or a `real`.
 fn read_number(alloc: Global, element: &Element) -> Result<Value, Stop>
-    ensures { Gives plain_value result (rules.text_of_element value.number (plain element.now)) }
+    ensures { Gives plain_value result (rules.text_value value.number (plain element.now)) }
 {
     let text = own_text(alloc, element)?;
     Ok(Value::Number(text))
@@ -71,7 +72,7 @@ fn read_number(alloc: Global, element: &Element) -> Result<Value, Stop>
 
 /// The value of a `true` or a `false`.
 fn read_bool(alloc: Global, element: &Element, holds: bool) -> Result<Value, Stop>
-    ensures { Gives plain_value result (rules.alone (value.truth holds) (plain element.now)) }
+    ensures { Gives plain_value result (rules.leaf_value (value.truth holds) (plain element.now)) }
 {
     nothing(alloc, element.children())?;
     Ok(Value::Bool(holds))
@@ -79,7 +80,7 @@ fn read_bool(alloc: Global, element: &Element, holds: bool) -> Result<Value, Sto
 
 /// The value of a `date` or a `data`.
 fn read_other(alloc: Global, element: &Element) -> Result<Value, Stop>
-    ensures { Gives plain_value result (rules.alone value.other (plain element.now)) }
+    ensures { Gives plain_value result (rules.leaf_value value.other (plain element.now)) }
 {
     nothing(alloc, element.children())?;
     Ok(Value::Other)
@@ -178,14 +179,41 @@ fn read_only(alloc: Global, list: &Element, elements: &[Element]) -> Result<Valu
     }
 }
 
-/// Reads the value off the tree of a property list (UFO 3, "XML Property List Format").
-#[tactic(auto, unfolding(crate::specs::PropertyLists::value_of))]
-pub fn read(alloc: Global, tree: &Element) -> Result<Value, Stop>
-    ensures exact { Gives plain_value result (value_of (plain tree.now)) }
+/// The value of the root of a property list.
+#[tactic(auto, unfolding(crate::specs::Reading::value_of))]
+fn read_list(alloc: Global, tree: &Element) -> Result<Value, Stop>
+    ensures { Gives plain_value result (value_of (plain tree.now)) }
 {
     if tree.name() == "plist" {
         read_only(alloc, tree, tree.children())
     } else {
         Err(fault(alloc, tree))
     }
+}
+
+/// Reads the value of a property list off its tree. Property lists are Apple's in XML (PropertyList-1.0.dtd), in
+/// which UFO 3 keeps all but its glyphs: a `plist` with one value in it. A value is a `string`, which gives its
+/// text; an `integer` or a `real`, which gives its text as a number; a `true` or a `false`; an `array` of values;
+/// a `dict` of keys with a value each, where of equal keys the first counts, and is the only one in the value;
+/// or a `date` or a `data`, which aren't read. Texts and keys are as they stand, with the blanks round them.
+/// Attributes, and texts between elements, mean nothing.
+///
+/// # Errors
+///
+/// `Stop::At` with the kind NotPlist and a place alone, exactly where the tree isn't of that form. The place is
+/// the offset in bytes of the first element that may not stand where it is, or of the `plist` or `dict` that
+/// lacks a child. An element comes before what is in it, its children come in order, each with all in it, and
+/// a missing child comes after them. `Stop::NoMemory` where memory ran out.
+#[tactic(auto, using(crate::proofs::Clauses::found_from, crate::proofs::Clauses::keys_from, crate::proofs::Clauses::only_from))]
+pub fn read(alloc: Global, tree: &Element) -> Result<Value, Stop>
+    // Which value it is, and which fault: the words for contracts of other crates.
+    ensures exact { Gives plain_value result (value_of (plain tree.now)) }
+    // What is read is a property list of that value.
+    ensures found { IfOk result (λ value. IsPropertyList (plain tree.now) (plain_value value)) }
+    // A property list is read as its value, unless memory runs out.
+    ensures only { (value : PlainValue) → IsPropertyList (plain tree.now) value → Gives plain_value result (Ok value) }
+    // No dictionary in the value has a key twice.
+    ensures keys { IfOk result (λ value. HasEachKeyOnce (plain_value value)) }
+{
+    read_list(alloc, tree)
 }

@@ -1,10 +1,11 @@
-ghost use Rattle.std.specs.Prelude.{◌≡◌, map, option_map, option_and_then};
+ghost use Rattle.std.specs.Prelude.{◌≡◌, map, option_map};
 ghost use Rattle.plist.specs.Values as plain;
-ghost use Rattle.plist.specs.Values.{at_key, plain_entry, plain_value};
+ghost use Rattle.plist.specs.Values.{plain_entry, plain_value};
 
 use outside::Name;
 
-/// A value of a property list.
+/// A value of a property list (Apple's in XML, PropertyList-1.0.dtd). Texts and keys have no bound but the file's;
+/// arrays and dictionaries stand at most 62 in one another, by the depth of a source text.
 #[derive(Drop)]
 pub enum Value {
     /// `string`: its text.
@@ -15,7 +16,7 @@ pub enum Value {
     Bool(bool),
     /// `array`: its values in order.
     Array(Vec<Value>),
-    /// `dict`: its keys with their values in order, no key twice.
+    /// `dict`: its keys with their values in order; in what `read` gives no key stands twice.
     Dict(Vec<(Name, Value)>),
     /// `date` or `data`, which aren't read.
     Other,
@@ -63,7 +64,7 @@ impl Value {
         }
     }
 
-    /// The keys of a `dict` with their values, in order; no two keys are equal in what `read` gives.
+    /// The keys of a `dict` with their values, in order; in what `read` gives no key stands twice.
     #[tactic(auto, using(crate::proofs::PlainLemmas::dict_plain))]
     pub fn as_dict(&self) -> Option<&[(Name, Value)]>
         ensures { option_map (λ entries. map plain_entry entries.now) result ≡ plain.as_dict (plain_value self.now) }
@@ -74,9 +75,9 @@ impl Value {
         }
     }
 
-    /// The value of a key, if it is a `dict` with this key.
+    /// The value of a key, if this is a `dict` that has it. It is looked for from the front.
     pub fn get(&self, key: &str) -> Option<&Value>
-        ensures { option_map (λ value. plain_value value.now) result ≡ option_and_then (at_key key.now) (plain.as_dict (plain_value self.now)) }
+        ensures { option_map (λ value. plain_value value.now) result ≡ plain.get key.now (plain_value self.now) }
     {
         for (name, value) in self.as_dict()? {
             if name.as_str() == key {

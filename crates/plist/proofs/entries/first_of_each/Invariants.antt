@@ -4,5 +4,5 @@ use Rattle.plist.specs.Entries.{firsts}
 use Rattle.plist.proofs.EqualKeys.{has, unseen}
 use Rattle.plist.proofs.entries.first_of_each.Given as goal
 
-abbrev pub invariant-loop-key : goal.invariant-loop-key
-invariant-loop-key l = l.kept.items ++ unseen (has l.keys) (into_iter_items l.key-iterator) ≡ firsts l.fn.entries.items
+abbrev pub invariant-loop-entry : goal.invariant-loop-entry
+invariant-loop-entry l = l.kept.items ++ unseen (has l.keys) (into_iter_items l.entry-iterator) ≡ firsts l.fn.entries.items

@@ -2,7 +2,7 @@ use Rattle.std.proofs.Common.{◌≡◌, drop, map}
 use Rattle.outside.specs.Reading.{with_front}
 use Rattle.markup_rules.specs.Tree.{trees_of}
 use Rattle.markup.specs.Plain.{plain}
-use Rattle.plist.specs.PropertyLists.{items_of, entries_of}
+use Rattle.plist.specs.Reading.{items_of, entries_of}
 use Rattle.plist.specs.Values.{plain_value, plain_entry}
 use Rattle.plist.proofs.Forms.{entries_by}
 use Rattle.plist.proofs.reader.+plist.Given as goal

@@ -50,11 +50,11 @@ key_of tree = if is_named (codes "key") tree then own_text tree else fault tree
 
 -- ---- values, each with what its form asks for
 
-abbrev pub text_of_element : (List ℕ → PlainValue) → Tree → Result PlainValue Spot
-text_of_element make tree = own_text tree >>= λ text. Ok (make text)
+abbrev pub text_value : (List ℕ → PlainValue) → Tree → Result PlainValue Spot
+text_value make tree = own_text tree >>= λ text. Ok (make text)
 
-abbrev pub alone : PlainValue → Tree → Result PlainValue Spot
-alone value tree = nothing (children_of tree) >>= λ _. Ok value
+abbrev pub leaf_value : PlainValue → Tree → Result PlainValue Spot
+leaf_value value tree = nothing (children_of tree) >>= λ _. Ok value
 
 abbrev pub array_by : Result (List PlainValue) Spot → Result PlainValue Spot
 array_by items = items >>= λ values. Ok (value.array (items_from values))
@@ -63,13 +63,13 @@ abbrev pub dict_by : Result (List Entry) Spot → Result PlainValue Spot
 dict_by entries = entries >>= λ all. Ok (value.dict (entries_from (firsts all)))
 
 abbrev pub value_by : Form → Tree → Result (List PlainValue) Spot → Result (List Entry) Spot → Result PlainValue Spot
-value_by Text tree items entries = text_of_element value.text tree
-value_by Number tree items entries = text_of_element value.number tree
-value_by True tree items entries = alone (value.truth true) tree
-value_by False tree items entries = alone (value.truth false) tree
+value_by Text tree items entries = text_value value.text tree
+value_by Number tree items entries = text_value value.number tree
+value_by True tree items entries = leaf_value (value.truth true) tree
+value_by False tree items entries = leaf_value (value.truth false) tree
 value_by Array tree items entries = array_by items
 value_by Dict tree items entries = dict_by entries
-value_by Unread tree items entries = alone value.other tree
+value_by Unread tree items entries = leaf_value value.other tree
 value_by Unknown tree items entries = fault tree
 
 abbrev mutual
