@@ -15,3 +15,6 @@ pub use glyph::read;
 pub use laws::limits_law;
 pub use limits::{coordinate_outside, within};
 pub use shape::{Component, Drawing, Outline, Point};
+
+#[cfg(test)]
+mod tests;
