@@ -38,7 +38,7 @@ shape_of shapes tree =
     if is_named (codes "contour") tree then (contour_of tree >>= λ contour. Ok (with_contour shapes contour)) else
     (if is_named (codes "component") tree then (component_of tree >>= λ component. Ok (with_component shapes component)) else fault NotGlif tree)
 
--- at most 4,000 points in all; where there are more, their count as limits tell it
+-- at most 4,000 points in all, or else their count, which stands still at the greatest 64-bit number
 abbrev pub few : Tree → Shapes → Result Shapes Spot
 few tree shapes =
     if nat_le (sum_by length shapes.contours) 4000 then Ok shapes

@@ -171,7 +171,50 @@ fn read_drawing(alloc: Global, tree: &Element) -> Result<Drawing, Stop>
     Ok(drawn(alloc, name, seen))
 }
 
-/// Reads a drawing off the tree of a GLIF (UFO 3, "GLIF", formats 1 and 2).
+/// Reads a drawing off the tree of a GLIF, the file of one glyph (UFO 3, "GLIF", formats 1 and 2).
+///
+/// Of the root `glyph` its `name` is read; of its elements the `width` of the first `advance`, which is 0
+/// where either is absent, the `hex` of each `unicode`, and the one `outline`. A code point that stands twice is
+/// kept once, at its first place. Of the outline each `contour` and each `component` are read, in their order;
+/// an outline may be absent.
+///
+/// Numbers are in font units. An advance width is 0 to 16,383; a coordinate, or an offset of a component, is
+/// −16,384 to 16,383. All are whole, and are written as decimal texts: `12.0` and ` +12 ` are 12.
+///
+/// A `point` is on the curve where its `type` is `line` or `qcurve`, and off it where the type is `offcurve` or
+/// absent. All points of a contour may be off the curve. A contour without points, and one whose only point is
+/// of the type `move`, with which editors of old wrote an anchor, is passed over unread.
+///
+/// A component draws its base as it is, but moved by `xOffset` and `yOffset`, each 0 where it is absent. Its
+/// `xScale` and `yScale`, where they are there, are 1, and its `xyScale` and `yxScale` 0, when they are rounded
+/// to 16 binary places.
+///
+/// Other elements of the glyph, attributes that aren't named here, and texts are passed over.
+///
+/// # Errors
+///
+/// `Stop::NoMemory` where memory ran out, or else `Stop::At` with the first fault. Its `at` is the offset in
+/// bytes of the element that is named here, `item` and `first` are what is said here, and all else is empty or
+/// 0. A number that is faulty is NotNumber, NotWhole or NumberRange, or CoordinateRange with the number as
+/// `first`; its item is the attribute. Tested are, in this order:
+///
+/// 1. the root: NotGlif where it isn't a `glyph`; FormatVersion where `format` isn't the text `1` or `2`, with `at`
+///    0 and as `first` the whole number that it writes, or −1 where it writes none or is absent; MissingAttribute
+///    of the item `name`;
+/// 2. the elements of the glyph in their order, each with all that is in it: the number `width` of the first
+///    `advance`; BadCode at a `unicode` whose `hex` is absent, isn't one to six hexadecimal digits, or is past
+///    10FFFF, a surrogate or FFFF; NotGlif at a second `outline`, before what is in it;
+/// 3. the elements of the outline in their order: NotGlif at one that is no `contour` and no `component`;
+/// 4. the elements of a contour in their order: NotGlif at one that is no `point`; MissingAttribute of the item
+///    `x`, the number `x`, and the same of `y`; then the type: Curve where it is `curve`, NotGlif where it is
+///    `move` and the point isn't the first, or another text;
+/// 5. behind its points the contour: TooManyPoints where there are more than 1,024, with their number as `first`;
+///    OpenContour where the first point is a `move`; LineAfterOff at the first `line` that stands behind a point
+///    off the curve, where the last point stands before the first;
+/// 6. a component: MissingAttribute of the item `base`; `xScale`, `yScale`, `xyScale` and `yxScale`, each the number
+///    and then ScaledComponent where it has another value; the numbers `xOffset` and `yOffset`;
+/// 7. behind its elements the outline: TooManyPoints where its contours have more than 4,000 in all, with their
+///    number as `first`.
 pub fn read(alloc: Global, tree: &Element) -> Result<Drawing, Stop>
     // Which drawing it is, and which fault.
     ensures exact { Gives (λ drawing. drawing) result (drawing_of (plain tree.now)) }

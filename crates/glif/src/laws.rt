@@ -6,6 +6,6 @@ ghost use Rattle.glif.specs.declared.shape.Drawing.{Drawing};
 
 /// The drawing that a tree means is within limits, and so are the offsets of its components.
 pub fn limits_law()
-    ensures outline { (tree : Tree) (drawing : Drawing) → drawing_of tree ≡ Ok drawing → IsWithinLimits drawing.outline }
+    ensures limits { (tree : Tree) (drawing : Drawing) → drawing_of tree ≡ Ok drawing → IsWithinLimits drawing.outline }
     ensures offsets { (tree : Tree) (drawing : Drawing) → drawing_of tree ≡ Ok drawing → All IsOffsetWithin drawing.components }
 {}

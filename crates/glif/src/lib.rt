@@ -17,3 +17,6 @@ pub use laws::limits_law;
 pub use limits::{coordinate_outside, within};
 pub use plain::plain_law;
 pub use shape::{Component, Drawing, Outline, Point};
+
+#[cfg(test)]
+mod tests;
