@@ -13,7 +13,8 @@ use std::alloc::Global;
 use std::collections::BTreeSet;
 use std::marker::Model;
 
-/// Code points in their order, each once. Contracts see the list.
+/// Code points in their order, each once. Contracts see the list; the set tells quickly whether a code point is in
+/// it, since a file may have a million.
 #[derive(Drop)]
 pub(crate) struct Codes {
     kept: Seq<u32>,
