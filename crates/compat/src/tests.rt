@@ -322,17 +322,27 @@ fn counts(rt: HostRuntime) -> Result<(), Fail> {
     Ok(())
 }
 
-#[test]
-fn long_chain(rt: HostRuntime) -> Result<(), Fail> {
-    let alloc = rt.alloc();
+/// Drawings of which each has the one behind it as a component, moved to the right by a step; the last has one
+/// point.
+fn chain(alloc: Global, last: u32, step: i32) -> Result<Seq<Drawing>, NoMemory> {
     let mut drawings = Seq::new(alloc);
-    for number in 0..4000u32 {
+    for number in 0..last {
         let name = format!(in alloc; "{number}")?;
-        let base = format!(in alloc; "{}", number + 1)?;
-        drawings.push(drawing(alloc, &(name.as_str(), &[], &[(base.as_str(), 4, 0)]))?)?;
+        let base = format!(in alloc; "{}", u64::from(number) + 1)?;
+        drawings.push(drawing(alloc, &(name.as_str(), &[], &[(base.as_str(), step, 0)]))?)?;
     }
-    drawings.push(drawing(alloc, &("4000", &[&[(0, 0, true)]], &[]))?)?;
-    let text = answer(alloc, &drawings)?;
+    let name = format!(in alloc; "{last}")?;
+    drawings.push(drawing(alloc, &(name.as_str(), &[&[(0, 0, true)]], &[]))?)?;
+    Ok(drawings)
+}
+
+#[test]
+fn long_chains(rt: HostRuntime) -> Result<(), Fail> {
+    let alloc = rt.alloc();
+    let text = answer(alloc, &chain(alloc, 4_000, 4)?)?;
     assert!(rt; text.as_str().starts_with("7 [(16000,0)];7 [(15996,0)];"));
+    // As many drawings as there may be.
+    let text = answer(alloc, &chain(alloc, 32_509, 1)?)?;
+    assert_eq!(rt; text.as_str(), "0 CoordinateRange 0 0 0 32509 0");
     Ok(())
 }
