@@ -1,15 +1,18 @@
 -- What an answer that is exact says of the tree.
 use Rattle.std.proofs.Common.{◌≡◌, Ok, Err, sym, ◌∙◌}
-use Rattle.std.specs.Prelude.{Result, IfOk}
+use Rattle.std.specs.Prelude.{Result, IfOk, IfErr}
 use Rattle.outside.specs.declared.fault.Spot.{Spot}
 use Rattle.outside.specs.declared.fault.Stop.{Stop}
 use Rattle.outside.specs.declared.fault.Stop.TheVariants.{At, NoMemory}
 use Rattle.outside.specs.Reading.{Gives}
 use Rattle.markup_rules.specs.Tree.{Tree}
 use Rattle.plist.specs.declared.value.Value.{Value}
+use Rattle.plist.specs.Faults.{IsFault, IsFirstFault}
 use Rattle.plist.specs.Reading.{value_of}
 use Rattle.plist.specs.Syntax.{HasEachKeyOnce, IsPropertyList}
 use Rattle.plist.specs.Values.{PlainValue, plain_value}
+use Rattle.plist.proofs.FaultGives.{fault_gives}
+use Rattle.plist.proofs.FaultTakes.{list_fails}
 use Rattle.plist.proofs.Gives.{list_gives}
 use Rattle.plist.proofs.Once.{list_has}
 use Rattle.plist.proofs.Takes.{list_takes}
@@ -32,3 +35,11 @@ same_reading (Err (At spot)) reading other e exact = sym e ∙ exact
 
 pub only_from : (tree : Tree) (answer : Answer) → Gives plain_value answer (value_of tree) → (value : PlainValue) → IsPropertyList tree value → Gives plain_value answer (Ok value)
 only_from tree answer exact value is = same_reading answer (value_of tree) (Ok value) (list_gives tree value is) exact
+
+pub fault_from : (tree : Tree) (answer : Answer) → Gives plain_value answer (value_of tree) → IfErr answer (IsFirstFault tree)
+fault_from tree (Ok value) exact = tt
+fault_from tree (Err NoMemory) exact = tt
+fault_from tree (Err (At spot)) exact = list_fails tree spot exact
+
+pub faulty_from : (tree : Tree) (answer : Answer) → Gives plain_value answer (value_of tree) → (spot : Spot) → IsFault tree spot → Gives plain_value answer (Err spot)
+faulty_from tree answer exact spot is = same_reading answer (value_of tree) (Err spot) (fault_gives tree spot is) exact

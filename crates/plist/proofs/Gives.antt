@@ -11,7 +11,7 @@ use Rattle.plist.specs.Syntax.{IsLeaf, IsValue, a_string, an_integer, a_real, a_
 use Rattle.plist.specs.Values.{PlainValue, Entry, text, number, truth, other}
 use Rattle.plist.proofs.Forms.{value_is}
 
-abbrev Read : Type 0 → Type 0
+abbrev pub Read : Type 0 → Type 0
 Read A = Result A Spot
 
 empty_gives : (trees : List Tree) → trees ≡ [] → nothing trees ≡ Ok tt
@@ -21,15 +21,15 @@ text_gives : (tree : Tree) → children_of tree ≡ [] → own_text tree ≡ Ok 
 unfolding own_text
 text_gives tree e = ap (λ end. end >>= λ _. Ok (text_of tree)) (empty_gives (children_of tree) e)
 
-if_named : {A : Type 0} (tree : Tree) (name : List ℕ) (read : Read A) → name_of tree ≡ name → cond (bytes_eq (name_of tree) name) read (fault tree) ≡ read
+pub if_named : {A : Type 0} (tree : Tree) (name : List ℕ) (read : Read A) → name_of tree ≡ name → cond (bytes_eq (name_of tree) name) read (fault tree) ≡ read
 if_named {A} tree name read e = ap (λ test. cond {A = Read A} test read (fault tree)) ((bytes_eq-Decides (name_of tree) name).1 e)
 
-key_gives : (tree : Tree) → IsLeaf (codes "key") tree → key_of tree ≡ Ok (text_of tree)
+pub key_gives : (tree : Tree) → IsLeaf (codes "key") tree → key_of tree ≡ Ok (text_of tree)
 unfolding key_of
 key_gives tree leaf = if_named tree (codes "key") (own_text tree) leaf.named ∙ text_gives tree leaf.empty
 
 -- the reading of an element, by its name
-by_name : (tree : Tree) (name : List ℕ) → name_of tree ≡ name → value_at tree ≡ value_by (form_of name) tree (items_of (trees_of (children_of tree))) (entries_of tree (trees_of (children_of tree)))
+pub by_name : (tree : Tree) (name : List ℕ) → name_of tree ≡ name → value_at tree ≡ value_by (form_of name) tree (items_of (trees_of (children_of tree))) (entries_of tree (trees_of (children_of tree)))
 by_name tree name e = value_is tree ∙ ap (λ n. value_by (form_of n) tree (items_of (trees_of (children_of tree))) (entries_of tree (trees_of (children_of tree)))) e
 
 text_leaf : (tree : Tree) (make : List ℕ → PlainValue) → children_of tree ≡ [] → (own_text tree >>= λ bytes. Ok (make bytes)) ≡ Ok (make (text_of tree))
@@ -39,7 +39,7 @@ alone_leaf : (tree : Tree) (value : PlainValue) → children_of tree ≡ [] → 
 alone_leaf tree value e = ap (λ end. end >>= λ _. Ok value) (empty_gives (children_of tree) e)
 
 mutual
-  value_gives : {tree : Tree} {value : PlainValue} → IsValue tree value → value_at tree ≡ Ok value
+  pub value_gives : {tree : Tree} {value : PlainValue} → IsValue tree value → value_at tree ≡ Ok value
   value_gives (a_string {tree} leaf) = by_name tree (codes "string") leaf.named ∙ text_leaf tree text leaf.empty
   value_gives (an_integer {tree} leaf) = by_name tree (codes "integer") leaf.named ∙ text_leaf tree number leaf.empty
   value_gives (a_real {tree} leaf) = by_name tree (codes "real") leaf.named ∙ text_leaf tree number leaf.empty

@@ -1,5 +1,7 @@
 mod Clauses
 mod EqualKeys
+mod FaultGives
+mod FaultTakes
 mod Forms
 mod Gives
 mod Once

@@ -16,7 +16,7 @@ use Rattle.plist.specs.Values.{PlainValue, Entry, text, number, truth, array, di
 
 -- ---- steps of a reading
 
-abbrev Read : Type 0 → Type 0
+abbrev pub Read : Type 0 → Type 0
 Read A = Result A Spot
 
 or_else : {A : Type 0} → Read A → A → A
@@ -63,11 +63,11 @@ text_takes tree bytes e =
     let at = steps (nothing (children_of tree)) (λ _. Ok (text_of tree)) bytes e in
     record { empty = empty_takes (children_of tree) at.step at.reads; means = same (text_of tree) bytes at.goes }
 
-record Key (tree : Tree) (bytes : List ℕ) : Type 0 where
-  leaf : IsLeaf (codes "key") tree
+pub record Key (tree : Tree) (bytes : List ℕ) : Type 0 where
+  pub leaf : IsLeaf (codes "key") tree
   means : text_of tree ≡ bytes
 
-key_takes : (tree : Tree) (bytes : List ℕ) → key_of tree ≡ Ok bytes → Key tree bytes
+pub key_takes : (tree : Tree) (bytes : List ℕ) → key_of tree ≡ Ok bytes → Key tree bytes
 unfolding key_of
 key_takes tree bytes e =
     let all = chosen (bytes_eq (name_of tree) (codes "key")) (own_text tree) tree bytes e in
@@ -76,7 +76,7 @@ key_takes tree bytes e =
 
 -- ---- the form by the name
 
-abbrev Told : List ℕ → Form → Type 0
+abbrev pub Told : List ℕ → Form → Type 0
 Told name Text = name ≡ codes "string"
 Told name Number = (name ≡ codes "integer") ⊎ (name ≡ codes "real")
 Told name True = name ≡ codes "true"
@@ -90,7 +90,7 @@ told_by : (name : List ℕ) (test : Bool) (form later : Form) → (test ≡ true
 told_by name true form later this others = this refl
 told_by name false form later this others = others
 
-told : (name : List ℕ) → Told name (form_of name)
+pub told : (name : List ℕ) → Told name (form_of name)
 told name =
     let is : (word : List ℕ) → bytes_eq name word ≡ true → name ≡ word = λ word. (bytes_eq-Decides name word).0 in
     let either : (word other : List ℕ) → (bytes_eq name word || bytes_eq name other) ≡ true → (name ≡ word) ⊎ (name ≡ other) =
@@ -136,7 +136,7 @@ by_form Unread tree items entries value (inr name) take_items take_entries e = a
 by_form Unknown tree items entries value name take_items take_entries e = cc
 
 mutual
-  value_takes : (tree : Tree) (value : PlainValue) → value_at tree ≡ Ok value → IsValue tree value
+  pub value_takes : (tree : Tree) (value : PlainValue) → value_at tree ≡ Ok value → IsValue tree value
   value_takes (node name attributes children own at) value e =
       let tree = node name attributes children own at in
       by_form (form_of name) tree (items_of children) (entries_of tree children) value (told name) (λ values h. items_take children values h) (λ all h. entries_take tree children all h) e

@@ -1,4 +1,5 @@
 pub mod Entries
+pub mod Faults
 pub mod Reading
 pub mod Syntax
 pub mod Values

@@ -8,7 +8,7 @@ mod laws;
 mod reader;
 mod value;
 
-pub use laws::{first_key_law, property_list_law};
+pub use laws::{fault_law, first_key_law, property_list_law};
 pub use reader::read;
 pub use value::Value;
 

@@ -1,7 +1,9 @@
-ghost use Rattle.std.specs.Prelude.{◌≡◌, IfOk, List, Ok, map};
+ghost use Rattle.std.specs.Prelude.{◌≡◌, Err, IfErr, IfOk, List, Ok, map};
 ghost use Rattle.outside.specs.Reading.{Gives, IsStop, each};
 ghost use Rattle.markup_rules.specs.Tree.{trees_of};
 ghost use Rattle.markup.specs.Plain.{plain};
+ghost use Rattle.outside.specs.declared.fault.Spot.{Spot};
+ghost use Rattle.plist.specs.Faults.{IsFault, IsFirstFault};
 ghost use Rattle.plist.specs.Reading as rules;
 ghost use Rattle.plist.specs.Reading.{value_at, value_of};
 ghost use Rattle.plist.specs.Syntax.{HasEachKeyOnce, IsPropertyList};
@@ -204,7 +206,7 @@ fn read_list(alloc: Global, tree: &Element) -> Result<Value, Stop>
 /// the offset in bytes of the first element that may not stand where it is, or of the `plist` or `dict` that
 /// lacks a child. An element comes before what is in it, its children come in order, each with all in it, and
 /// a missing child comes after them. `Stop::NoMemory` where memory ran out.
-#[tactic(auto, using(crate::proofs::Clauses::found_from, crate::proofs::Clauses::keys_from, crate::proofs::Clauses::only_from))]
+#[tactic(auto, using(crate::proofs::Clauses::found_from, crate::proofs::Clauses::only_from, crate::proofs::Clauses::fault_from, crate::proofs::Clauses::faulty_from, crate::proofs::Clauses::keys_from))]
 pub fn read(alloc: Global, tree: &Element) -> Result<Value, Stop>
     // Which value it is, and which fault: the words for contracts of other crates.
     ensures exact { Gives plain_value result (value_of (plain tree.now)) }
@@ -212,6 +214,10 @@ pub fn read(alloc: Global, tree: &Element) -> Result<Value, Stop>
     ensures found { IfOk result (λ value. IsPropertyList (plain tree.now) (plain_value value)) }
     // A property list is read as its value, unless memory runs out.
     ensures only { (value : PlainValue) → IsPropertyList (plain tree.now) value → Gives plain_value result (Ok value) }
+    // A fault is the tree's first one.
+    ensures fault { IfErr result (IsFirstFault (plain tree.now)) }
+    // And a tree with a fault is refused for it, unless memory runs out.
+    ensures faulty { (spot : Spot) → IsFault (plain tree.now) spot → Gives plain_value result (Err spot) }
     // No dictionary in the value has a key twice.
     ensures keys { IfOk result (λ value. HasEachKeyOnce (plain_value value)) }
 {
