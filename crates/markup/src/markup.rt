@@ -10,6 +10,7 @@ use crate::content::content_of;
 use crate::items::Item;
 use crate::names::name_at;
 use crate::searches::{begins, first_place};
+use crate::text::Text;
 use outside::{Name, NoMemory, Seq};
 use std::alloc::Global;
 
@@ -34,7 +35,7 @@ pub(crate) enum Markup<'a> {
     /// A document type.
     Doctype,
     /// Characters and references: whether they are blanks alone, and what they mean.
-    Content(bool, String),
+    Content(bool, Text<'a>),
     /// Of no right form.
     Bad,
 }
