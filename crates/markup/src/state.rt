@@ -77,6 +77,20 @@ impl<'a> Open<'a> {
     }
 }
 
+/// The element of a tag with nothing in it.
+fn empty_element(alloc: Global, opening: Opening, at: u64) -> Result<Element, NoMemory>
+    ensures { IfOk result (λ element. plain element ≡ Rattle.markup_rules.specs.Outcome.ended (begun at (opening_view opening))) }
+{
+    let text = Name::from_str(alloc, "")?;
+    Ok(Element {
+        name: opening.name,
+        attributes: opening.attributes,
+        children: Vec::new(alloc),
+        text,
+        at,
+    })
+}
+
 impl<'a> State<'a> {
     /// Nothing read so far.
     pub(crate) fn new(alloc: Global) -> State<'a>
@@ -193,7 +207,7 @@ impl<'a> State<'a> {
         match markup {
             Markup::Start(opening) => self.start(Open::new(alloc, opening, at)),
             Markup::Empty(opening) => {
-                let element = Open::new(alloc, opening, at).end(alloc)?;
+                let element = empty_element(alloc, opening, at)?;
                 self.adopt(element)
             }
             Markup::Finish(_) => self.finish(alloc),
