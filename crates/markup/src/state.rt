@@ -91,6 +91,17 @@ fn empty_element(alloc: Global, opening: Opening, at: u64) -> Result<Element, No
     })
 }
 
+/// Adds an element to those of its parent. The first takes no room for more, since many parents have one.
+fn push_child(children: &mut Vec<Element>, child: Element) -> Result<(), NoMemory>
+    ensures { OnOk result (children.new.items ≡ children.old.items ++ child ∷ []) }
+{
+    if children.is_empty() {
+        children.reserve_exact(1)?;
+    }
+    children.push(child)?;
+    Ok(())
+}
+
 impl<'a> State<'a> {
     /// Nothing read so far.
     pub(crate) fn new(alloc: Global) -> State<'a>
@@ -169,7 +180,7 @@ impl<'a> State<'a> {
         ensures { OnOk result (state_of self.new ≡ adopted (plain element) (state_of self.old).frames (state_of self.old)) }
     {
         match &mut self.innermost {
-            Some(parent) => parent.children.push(element)?,
+            Some(parent) => push_child(&mut parent.children, element)?,
             None => self.root = Some(element),
         }
         Ok(())
