@@ -1,4 +1,5 @@
 pub mod ByteSearch
 mod Clauses
 pub mod Loops
+mod NameSets
 pub mod PlainLemmas

@@ -9,15 +9,21 @@ use Rattle.markup_rules.specs.Reading.{start, empty, finish, aside, doctype, con
 use Rattle.markup.specs.declared.markup.Opening.{Opening}
 use Rattle.markup.specs.declared.markup.Markup.{Markup}
 use Rattle.markup.specs.declared.markup.Markup.TheVariants.{Start, Empty, Finish, Aside, Doctype, Content, Bad}
-use Rattle.markup.specs.declared.content.Piece.{Piece}
-use Rattle.markup.specs.declared.content.Piece.TheVariants.{Run, Character}
+use Rattle.markup.specs.declared.text.Piece.{Piece}
+use Rattle.markup.specs.declared.text.Piece.TheVariants.{Run, Character}
+use Rattle.markup.specs.declared.text.Text.{Text}
+use Rattle.markup.specs.declared.text.Text.TheVariants.{Borrowed, Owned}
 
 abbrev pub piece_bytes : Piece → List ℕ
 piece_bytes (Run text) = text.now
 piece_bytes (Character c) = encode_utf8 c
 
+abbrev pub text_bytes : Text → List ℕ
+text_bytes (Borrowed text) = text.now
+text_bytes (Owned text) = string_bytes text
+
 abbrev pub attribute_view : Attribute → List ℕ × List ℕ
-attribute_view a = (a.name.now, string_bytes a.value)
+attribute_view a = (a.name.now, text_bytes a.value)
 
 abbrev pub item_view : Item → rules.Item
 item_view (Comment body) = comment body.now
@@ -38,5 +44,5 @@ markup_view (Empty opening) = empty (opening_view opening)
 markup_view (Finish name) = finish name.now
 markup_view Aside = aside
 markup_view Doctype = doctype
-markup_view (Content is_blank text) = content is_blank (string_bytes text)
+markup_view (Content is_blank text) = content is_blank (text_bytes text)
 markup_view Bad = bad

@@ -1,19 +1,22 @@
-ghost use Rattle.std.specs.Prelude.{◌≡◌, ◌++◌, [], ◌∷◌, map, IfOk, OnOk, string_bytes, option_map};
+ghost use Rattle.std.specs.Prelude.{◌≡◌, ◌++◌, [], ◌∷◌, map, not, IfOk, OnOk, option_map, if◌then◌else◌};
 ghost use Rattle.std.specs.List.{list_any};
 ghost use Rattle.std.specs.Str.{bytes_eq};
 ghost use Rattle.markup_rules.specs.Syntax.{firsts};
 ghost use Rattle.markup_rules.specs.Reading as rules;
 ghost use Rattle.markup_rules.specs.Reading.{Agrees};
 ghost use Rattle.markup_rules.specs.Bytes.{after_run};
-ghost use Rattle.markup_rules.proofs.Attributes.{with_attribute};
-ghost use Rattle.markup.specs.Views.{attribute_view};
+ghost use Rattle.markup_rules.proofs.Attributes.{names_of, with_attribute};
+ghost use Rattle.markup.specs.Names.{HasNames};
+ghost use Rattle.markup.specs.Views.{attribute_view, text_bytes};
 
 use crate::bytes::{after_blanks, starts_blank};
 use crate::content::content_of;
 use crate::names::name_at;
 use crate::searches::place_of;
+use crate::text::Text;
 use outside::{Name, NoMemory, Seq};
 use std::alloc::Global;
+use std::collections::BTreeSet;
 
 /// What follows the blanks at the front, one at least.
 #[tactic(auto, unfolding(markup_rules::specs::Reading::blank_at))]
@@ -58,8 +61,8 @@ fn quoted_at(bytes: &[u8]) -> Option<(&[u8], &[u8])>
 
 /// The value between quotes at the front, and what follows it.
 #[tactic(auto, unfolding(markup_rules::specs::Reading::value_at))]
-fn value_at(alloc: Global, bytes: &[u8]) -> Result<Option<(String, &[u8])>, NoMemory>
-    ensures { IfOk result (λ found. Agrees (λ value. (string_bytes value.0, value.1.now)) found (rules.value_at bytes.now)) }
+fn value_at(alloc: Global, bytes: &[u8]) -> Result<Option<(Text<'_>, &[u8])>, NoMemory>
+    ensures { IfOk result (λ found. Agrees (λ value. (text_bytes value.0, value.1.now)) found (rules.value_at bytes.now)) }
 {
     let Some((value, rest)) = quoted_at(bytes) else {
         return Ok(None);
@@ -85,7 +88,7 @@ fn label_at(bytes: &[u8]) -> Option<(&str, &[u8])>
 #[derive(Drop)]
 pub(crate) struct Attribute<'a> {
     name: &'a str,
-    value: String,
+    value: Text<'a>,
 }
 
 /// The attribute at the front, behind a blank at least, and what follows it.
@@ -114,20 +117,74 @@ fn has_name(attributes: &[(Name, Name)], name: &str) -> bool
     false
 }
 
+/// The most attributes of a tag that are compared with one another. The names of more are looked up.
+const FEW: usize = 16;
+
+/// How many attributes a tag with these bytes has at most, or one more than `FEW` where it may have more.
+fn count_up_to_many(bytes: &[u8]) -> usize {
+    bytes
+        .iter()
+        .filter(|byte| **byte == b'=')
+        .take(FEW + 1)
+        .count()
+}
+
+/// The names of the attributes kept so far, where there may be many.
+type Names<'a> = Option<BTreeSet<&'a str>>;
+
+/// No names so far, in a tag of about so many attributes.
+fn no_names<'a>(alloc: Global, count: usize) -> Names<'a>
+    ensures { HasNames result [] }
+{
+    if count > FEW {
+        Some(BTreeSet::new(alloc))
+    } else {
+        None
+    }
+}
+
+/// Whether none of the attributes kept so far has this name, which counts as kept from now on.
+fn is_first<'a>(
+    kept: &[(Name, Name)],
+    names: &mut Names<'a>,
+    name: &'a str,
+) -> Result<bool, NoMemory>
+    requires { HasNames names.old (names_of kept.now) }
+    ensures first { IfOk result (λ first. first ≡ not (list_any (bytes_eq name.now) (names_of kept.now))) }
+    ensures names { IfOk result (λ first. HasNames names.new (if first then names_of kept.now ++ name.now ∷ [] else names_of kept.now)) }
+{
+    match names {
+        Some(names) => Ok(names.insert(name)?),
+        None => Ok(!has_name(kept, name)),
+    }
+}
+
 /// Adds an attribute, unless one of its name is there.
-fn push_first(
+fn push_first<'a>(
     alloc: Global,
     kept: &mut Seq<(Name, Name)>,
-    attribute: &Attribute<'_>,
+    names: &mut Names<'a>,
+    attribute: Attribute<'a>,
 ) -> Result<(), NoMemory>
-    ensures { OnOk result (kept.new ≡ with_attribute (attribute_view attribute.now) kept.old) }
+    requires { HasNames names.old (names_of kept.old) }
+    ensures kept { OnOk result (kept.new ≡ with_attribute (attribute_view attribute.entry) kept.old) }
+    ensures names { OnOk result (HasNames names.new (names_of kept.new)) }
 {
-    if has_name(kept.as_slice(), attribute.name) {
+    if !is_first(kept.as_slice(), names, attribute.name)? {
         return Ok(());
     }
     let name = Name::from_str(alloc, attribute.name)?;
     let value = Name::from_str(alloc, attribute.value.as_str())?;
     kept.push((name, value))
+}
+
+/// The same attributes, which take no more memory than they need.
+fn fitted(kept: Seq<(Name, Name)>) -> Seq<(Name, Name)>
+    ensures { result ≡ kept }
+{
+    let mut items = kept.into_vec();
+    items.shrink_to_fit();
+    Seq::from_vec(items)
 }
 
 /// Whether the bytes are `/` alone.
@@ -152,14 +209,16 @@ pub(crate) fn attributes_at(
 ) -> Result<Option<(Seq<(Name, Name)>, &[u8])>, NoMemory>
     ensures { IfOk result (λ found. Agrees (λ a. (a.0, a.1.now)) found (rules.attributes_at bytes.now)) }
 {
-    let mut kept = Seq::new(alloc);
+    let count = count_up_to_many(bytes);
+    let mut names = no_names(alloc, count);
+    let mut kept = Seq::from_vec(Vec::with_capacity(alloc, count)?);
     let mut rest = bytes;
     while !is_tag_end(rest) {
         let Some((attribute, after)) = attribute_at(alloc, rest)? else {
             return Ok(None);
         };
-        push_first(alloc, &mut kept, &attribute)?;
+        push_first(alloc, &mut kept, &mut names, attribute)?;
         rest = after;
     }
-    Ok(Some((kept, rest)))
+    Ok(Some((fitted(kept), rest)))
 }

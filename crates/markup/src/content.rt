@@ -1,22 +1,16 @@
-ghost use Rattle.std.specs.Prelude.{◌≡◌, ◌≤◌, ◌^◌, ◌<◌, ◌+◌, ◌*◌, length, min, string_bytes, OnOk, OnErr, IfOk, IfSome, ◌++◌, option_map};
+ghost use Rattle.std.specs.Prelude.{◌≡◌, ◌≤◌, ◌^◌, ◌<◌, ◌+◌, ◌*◌, length, min, IfOk, option_map};
 ghost use Rattle.std.specs.Prelude.{encode_utf8};
 ghost use Rattle.std.specs.Char.{digit_value, is_ascii_digit, is_ascii_hexdigit};
 ghost use Rattle.std.specs.List.{list_all};
 ghost use Rattle.std.specs.Str.Parse.{digits_value};
 ghost use Rattle.markup_rules.specs.Reading.{Agrees, allowed, character_of, content_of, number_of, number_reference, numbered, piece_at, reference_at, run_of};
-ghost use Rattle.markup.specs.Views.{piece_bytes};
+ghost use Rattle.markup.specs.Views.{piece_bytes, text_bytes};
 
 use crate::bytes::split_plain;
 use crate::searches::place_of;
+use crate::text::{Piece, Text};
 use outside::NoMemory;
 use std::alloc::Global;
-
-/// A run of characters, or the character that a reference stands for.
-#[derive(Clone, Copy)]
-pub(crate) enum Piece<'a> {
-    Run(&'a str),
-    Character(char),
-}
 
 /// One past the greatest character: where a number stops to count.
 const CAP: u32 = 0x11_0000;
@@ -207,29 +201,18 @@ fn piece_at(bytes: &[u8]) -> Option<(Piece<'_>, &[u8])>
     }
 }
 
-/// Adds what a piece means.
-fn push_piece(text: &mut String, piece: Piece<'_>) -> Result<(), NoMemory>
-    ensures { OnOk result (string_bytes text.new ≡ string_bytes text.old ++ piece_bytes piece.entry) }
-{
-    match piece {
-        Piece::Run(run) => text.push_str(run)?,
-        Piece::Character(c) => text.push(c)?,
-    }
-    Ok(())
-}
-
 /// What characters and references mean, or None where a part is neither.
 #[tactic(auto, unfolding(markup_rules::specs::Reading::content_of))]
-pub(crate) fn content_of(alloc: Global, bytes: &[u8]) -> Result<Option<String>, NoMemory>
-    ensures { IfOk result (λ found. Agrees string_bytes found (content_of bytes.now)) }
+pub(crate) fn content_of(alloc: Global, bytes: &[u8]) -> Result<Option<Text<'_>>, NoMemory>
+    ensures { IfOk result (λ found. Agrees text_bytes found (content_of bytes.now)) }
 {
-    let mut text = String::new(alloc);
+    let mut text = Text::new();
     let mut rest = bytes;
     while !rest.is_empty() {
         let Some((piece, after)) = piece_at(rest) else {
             return Ok(None);
         };
-        push_piece(&mut text, piece)?;
+        text = text.with_piece(alloc, piece)?;
         rest = after;
     }
     Ok(Some(text))

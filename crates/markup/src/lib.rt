@@ -12,6 +12,7 @@ mod names;
 mod reader;
 mod searches;
 mod state;
+mod text;
 
 pub use element::Element;
 pub use reader::read;

@@ -1,7 +1,7 @@
-ghost use Rattle.std.specs.Prelude.{◌≡◌, IfOk, codes, drop};
+ghost use Rattle.std.specs.Prelude.{◌≡◌, IfOk, codes, drop, unwrap_or};
 ghost use Rattle.markup_rules.specs.Bytes as byte_rules;
 ghost use Rattle.markup_rules.specs.Reading as rules;
-ghost use Rattle.markup_rules.specs.Reading.{Agrees};
+ghost use Rattle.markup_rules.specs.Reading.{bad};
 ghost use Rattle.markup.specs.Views.{item_view, markup_view, opening_view};
 
 use crate::attributes::attributes_at;
@@ -10,6 +10,7 @@ use crate::content::content_of;
 use crate::items::Item;
 use crate::names::name_at;
 use crate::searches::{begins, first_place};
+use crate::text::Text;
 use outside::{Name, NoMemory, Seq};
 use std::alloc::Global;
 
@@ -34,7 +35,7 @@ pub(crate) enum Markup<'a> {
     /// A document type.
     Doctype,
     /// Characters and references: whether they are blanks alone, and what they mean.
-    Content(bool, String),
+    Content(bool, Text<'a>),
     /// Of no right form.
     Bad,
 }
@@ -52,46 +53,49 @@ fn opened(opening: Opening, rest: &[u8]) -> Markup<'_>
 
 /// A tag that starts an element: its name, its attributes, and `/` where the element is empty.
 #[tactic(auto, unfolding(markup_rules::specs::Reading::start_tag))]
-fn start_tag(alloc: Global, body: &[u8]) -> Result<Option<Markup<'_>>, NoMemory>
-    ensures { IfOk result (λ found. Agrees markup_view found (rules.start_tag body.now)) }
+fn start_tag(alloc: Global, body: &[u8]) -> Result<Markup<'_>, NoMemory>
+    ensures { IfOk result (λ markup. markup_view markup ≡ unwrap_or (rules.start_tag body.now) bad) }
 {
     let Some((name, rest)) = name_at(body) else {
-        return Ok(None);
+        return Ok(Markup::Bad);
     };
     match attributes_at(alloc, rest)? {
         Some((attributes, rest)) => {
             let name = Name::from_str(alloc, name)?;
             let markup = opened(Opening { name, attributes }, rest);
-            Ok(Some(markup))
+            Ok(markup)
         }
-        None => Ok(None),
+        None => Ok(Markup::Bad),
     }
 }
 
 /// A tag that ends an element, behind its `/`.
 #[tactic(auto, unfolding(markup_rules::specs::Reading::end_tag))]
-fn end_tag(body: &[u8]) -> Option<Markup<'_>>
-    ensures { Agrees markup_view result (rules.end_tag body.now) }
+fn end_tag(body: &[u8]) -> Markup<'_>
+    ensures { markup_view result ≡ unwrap_or (rules.end_tag body.now) bad }
 {
-    let (name, rest) = name_at(body)?;
-    if are_blanks(rest) {
-        Some(Markup::Finish(name))
-    } else {
-        None
+    match name_at(body) {
+        Some((name, rest)) => {
+            if are_blanks(rest) {
+                Markup::Finish(name)
+            } else {
+                Markup::Bad
+            }
+        }
+        None => Markup::Bad,
     }
 }
 
 /// A tag.
 #[tactic(auto, unfolding(markup_rules::specs::Reading::tag_markup))]
-fn tag_markup(alloc: Global, body: &[u8]) -> Result<Option<Markup<'_>>, NoMemory>
-    ensures { IfOk result (λ found. Agrees markup_view found (rules.tag_markup body.now)) }
+fn tag_markup(alloc: Global, body: &[u8]) -> Result<Markup<'_>, NoMemory>
+    ensures { IfOk result (λ markup. markup_view markup ≡ unwrap_or (rules.tag_markup body.now) bad) }
 {
     match body {
-        [] => Ok(None),
+        [] => Ok(Markup::Bad),
         [byte, rest @ ..] => {
             if *byte == b'/' {
-                let markup = end_tag(rest);
-                Ok(markup)
+                Ok(end_tag(rest))
             } else {
                 let markup = start_tag(alloc, body)?;
                 Ok(markup)
@@ -102,12 +106,12 @@ fn tag_markup(alloc: Global, body: &[u8]) -> Result<Option<Markup<'_>>, NoMemory
 
 /// Characters and references.
 #[tactic(auto, unfolding(markup_rules::specs::Reading::data_markup))]
-fn data_markup(alloc: Global, bytes: &[u8]) -> Result<Option<Markup<'_>>, NoMemory>
-    ensures { IfOk result (λ found. Agrees markup_view found (rules.data_markup bytes.now)) }
+fn data_markup(alloc: Global, bytes: &[u8]) -> Result<Markup<'_>, NoMemory>
+    ensures { IfOk result (λ markup. markup_view markup ≡ unwrap_or (rules.data_markup bytes.now) bad) }
 {
     match content_of(alloc, bytes)? {
-        Some(text) => Ok(Some(Markup::Content(are_blanks(bytes), text))),
-        None => Ok(None),
+        Some(text) => Ok(Markup::Content(are_blanks(bytes), text)),
+        None => Ok(Markup::Bad),
     }
 }
 
@@ -156,19 +160,19 @@ pub(crate) fn markup_of<'a>(alloc: Global, item: Item<'a>) -> Result<Markup<'a>,
         Item::Comment(body) => Ok(comment_markup(body)),
         Item::Instruction(body) => Ok(instruction_markup(body)),
         Item::Declaration(body) => Ok(declaration_markup(body)),
-        Item::Tag(body) => match tag_markup(alloc, body)? {
-            Some(markup) => Ok(markup),
-            None => Ok(Markup::Bad),
-        },
+        Item::Tag(body) => {
+            let markup = tag_markup(alloc, body)?;
+            Ok(markup)
+        }
         Item::Broken => Ok(Markup::Bad),
         Item::Unended => Ok(Markup::Bad),
-        Item::DataBetween(bytes) => match data_markup(alloc, bytes)? {
-            Some(markup) => Ok(markup),
-            None => Ok(Markup::Bad),
-        },
-        Item::DataToEnd(bytes) => match data_markup(alloc, bytes)? {
-            Some(markup) => Ok(markup),
-            None => Ok(Markup::Bad),
-        },
+        Item::DataBetween(bytes) => {
+            let markup = data_markup(alloc, bytes)?;
+            Ok(markup)
+        }
+        Item::DataToEnd(bytes) => {
+            let markup = data_markup(alloc, bytes)?;
+            Ok(markup)
+        }
     }
 }

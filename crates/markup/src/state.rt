@@ -1,95 +1,127 @@
 ghost use Rattle.std.specs.Prelude.{◌≡◌, ◌-◌, ◌≤◌, pos, length, MatchResult, OnOk, IfOk, is_some, string_bytes, ◌++◌, ◌∷◌, [], Ok, Err};
-ghost use Rattle.outside.specs.Reading.{Fails, Gives};
+ghost use Rattle.outside.specs.Reading.{Fails, Gives, IsStop};
 ghost use Rattle.markup_rules.specs.Bytes as byte_rules;
 ghost use Rattle.markup_rules.specs.Reading as rules;
 ghost use Rattle.markup_rules.specs.Faults.{is_allowed_at, is_innermost, lacks_end, spot};
 ghost use Rattle.markup_rules.specs.Outcome.{adopted, begun, changed, closed, initial, place_of_state, root_or_fault, step, texted};
 ghost use Rattle.markup.specs.Plain.{plain};
-ghost use Rattle.markup.specs.Views.{item_view, markup_view, opening_view};
-ghost use Rattle.markup.specs.States.{IsStop, entry_of, frame_of, state_of};
+ghost use Rattle.markup.specs.Views.{item_view, markup_view, opening_view, text_bytes};
+ghost use Rattle.markup.specs.States.{entry_of, frame_of, state_of};
 
 use crate::element::Element;
 use crate::items::{Item, opens};
 use crate::markup::{Markup, Opening, markup_of};
-use outside::{Kind, Name, NoMemory, Seq, Spot, Stop};
+use crate::text::Text;
+use outside::{Kind, Name, NoMemory, Seq, Stop, stop_at};
 use std::alloc::Global;
+use std::mem;
 
 /// The most elements that may stand one in another.
 const DEPTH: usize = 64;
 
 /// An element that is open, with what stands in it so far.
 #[derive(Drop)]
-pub(crate) struct Open {
+pub(crate) struct Open<'a> {
     name: Name,
     attributes: Seq<(Name, Name)>,
     children: Vec<Element>,
-    text: String,
+    text: Text<'a>,
     at: u64,
 }
 
-/// The open elements, the innermost last, the root where it has ended, and whether a document type has stood.
+/// The innermost open element and those around it, the outermost first, the root where it has ended, and
+/// whether a document type has stood.
 #[derive(Drop)]
-pub(crate) struct State {
-    open: Vec<Open>,
+pub(crate) struct State<'a> {
+    innermost: Option<Open<'a>>,
+    outer: Vec<Open<'a>>,
     root: Option<Element>,
     is_declared: bool,
 }
 
-/// The stop at a fault with nothing but its kind and its place.
-fn stop_at(alloc: Global, kind: Kind, at: usize) -> Stop
+/// The stop at a fault, which has nothing but its kind and its place.
+fn stop(alloc: Global, kind: Kind, at: usize) -> Stop
     ensures { IsStop result (spot kind at) }
 {
-    match Name::from_str(alloc, "") {
-        Ok(item) => Stop::At(Spot {
-            kind,
-            item,
-            at: at as u64,
-            also: 0,
-            first: 0,
-            second: 0,
-        }),
-        Err(NoMemory) => Stop::NoMemory,
-    }
+    stop_at(alloc, kind, "", at as u64, 0)
 }
 
-impl Open {
+impl<'a> Open<'a> {
     /// An element that has just begun.
-    fn new(alloc: Global, opening: Opening, at: u64) -> Open
+    fn new(alloc: Global, opening: Opening, at: u64) -> Open<'a>
         ensures { frame_of result ≡ begun at (opening_view opening) }
     {
         Open {
             name: opening.name,
             attributes: opening.attributes,
             children: Vec::new(alloc),
-            text: String::new(alloc),
+            text: Text::new(),
             at,
         }
     }
 
-    /// The element where it has ended.
+    /// The element where it has ended, which takes no more memory than it needs.
     fn end(self, alloc: Global) -> Result<Element, NoMemory>
-        ensures { IfOk result (λ element. plain element ≡ Rattle.markup_rules.specs.Outcome.ended (frame_of self)) }
+        ensures { IfOk result (λ element. plain element ≡ Rattle.markup_rules.specs.Outcome.ended (frame_of self.entry)) }
     {
+        let mut children = self.children;
+        children.shrink_to_fit();
         let text = Name::from_str(alloc, self.text.as_str())?;
         Ok(Element {
             name: self.name,
             attributes: self.attributes,
-            children: self.children,
+            children,
             text,
             at: self.at,
         })
     }
 }
 
-impl State {
+/// The element of a tag with nothing in it.
+fn empty_element(alloc: Global, opening: Opening, at: u64) -> Result<Element, NoMemory>
+    ensures { IfOk result (λ element. plain element ≡ Rattle.markup_rules.specs.Outcome.ended (begun at (opening_view opening))) }
+{
+    let text = Name::from_str(alloc, "")?;
+    Ok(Element {
+        name: opening.name,
+        attributes: opening.attributes,
+        children: Vec::new(alloc),
+        text,
+        at,
+    })
+}
+
+/// Adds an element to those of its parent. The first takes no room for more, since many parents have one.
+fn push_child(children: &mut Vec<Element>, child: Element) -> Result<(), NoMemory>
+    ensures { OnOk result (children.new.items ≡ children.old.items ++ child ∷ []) }
+{
+    if children.is_empty() {
+        children.reserve_exact(1)?;
+    }
+    children.push(child)?;
+    Ok(())
+}
+
+impl<'a> State<'a> {
     /// Nothing read so far.
-    pub(crate) fn new(alloc: Global) -> State
+    pub(crate) fn new(alloc: Global) -> State<'a>
         ensures { state_of result ≡ initial }
     {
         State {
-            open: Vec::new(alloc),
+            innermost: None,
+            outer: Vec::new(alloc),
             root: None,
             is_declared: false,
+        }
+    }
+
+    /// How many elements are open.
+    fn depth(&self) -> usize
+        ensures { result ≡ length (state_of self.now).frames }
+    {
+        match &self.innermost {
+            Some(_) => self.outer.len() + 1,
+            None => 0,
         }
     }
 
@@ -97,7 +129,7 @@ impl State {
     fn is_innermost(&self, name: &str) -> bool
         ensures { result ≡ is_innermost name.now (place_of_state (state_of self.now)).names }
     {
-        match self.open.last() {
+        match &self.innermost {
             Some(open) => name == open.name.as_str(),
             None => false,
         }
@@ -112,8 +144,10 @@ impl State {
             Markup::Empty(_) => self.root.is_none(),
             Markup::Finish(name) => self.is_innermost(name),
             Markup::Aside => true,
-            Markup::Doctype => self.open.is_empty() && self.root.is_none() && !self.is_declared,
-            Markup::Content(is_blank, _) => !self.open.is_empty() || *is_blank,
+            Markup::Doctype => {
+                self.innermost.is_none() && self.root.is_none() && !self.is_declared
+            }
+            Markup::Content(is_blank, _) => self.innermost.is_some() || *is_blank,
             Markup::Bad => false,
         }
     }
@@ -124,20 +158,29 @@ impl State {
     {
         match item {
             Item::Unended => true,
-            Item::DataToEnd(_) => !self.open.is_empty(),
+            Item::DataToEnd(_) => self.innermost.is_some(),
             _ => false,
         }
+    }
+
+    /// Begins an element in the innermost open one.
+    fn start(&mut self, element: Open<'a>) -> Result<(), NoMemory>
+        ensures { OnOk result (state_of self.new ≡ record (state_of self.old) { frames = frame_of element.entry ∷ (state_of self.old).frames }) }
+    {
+        match self.innermost.take() {
+            Some(parent) => self.outer.push(parent)?,
+            None => self.outer.clear(),
+        }
+        self.innermost = Some(element);
+        Ok(())
     }
 
     /// Gives an element that has ended to the innermost open one, or makes it the root.
     fn adopt(&mut self, element: Element) -> Result<(), NoMemory>
         ensures { OnOk result (state_of self.new ≡ adopted (plain element) (state_of self.old).frames (state_of self.old)) }
     {
-        match self.open.pop() {
-            Some(mut parent) => {
-                parent.children.push(element)?;
-                self.open.push(parent)?;
-            }
+        match &mut self.innermost {
+            Some(parent) => push_child(&mut parent.children, element)?,
             None => self.root = Some(element),
         }
         Ok(())
@@ -147,9 +190,10 @@ impl State {
     fn finish(&mut self, alloc: Global) -> Result<(), NoMemory>
         ensures { OnOk result (state_of self.new ≡ closed (state_of self.old).frames (state_of self.old)) }
     {
-        match self.open.pop() {
+        match self.innermost.take() {
             Some(open) => {
                 let element = open.end(alloc)?;
+                self.innermost = self.outer.pop();
                 self.adopt(element)
             }
             None => Ok(()),
@@ -157,30 +201,24 @@ impl State {
     }
 
     /// Adds characters to the innermost open element.
-    fn add_text(&mut self, text: &str) -> Result<(), NoMemory>
-        ensures { OnOk result (state_of self.new ≡ texted text.now (state_of self.old).frames (state_of self.old)) }
+    fn add_text(&mut self, alloc: Global, text: Text<'a>) -> Result<(), NoMemory>
+        ensures { OnOk result (state_of self.new ≡ texted (text_bytes text.entry) (state_of self.old).frames (state_of self.old)) }
     {
-        match self.open.pop() {
-            Some(mut open) => {
-                open.text.push_str(text)?;
-                self.open.push(open)?;
-            }
-            None => {}
+        if let Some(open) = &mut self.innermost {
+            let before = mem::replace(&mut open.text, Text::new());
+            open.text = before.with_text(alloc, text)?;
         }
         Ok(())
     }
 
     /// Takes a right item at a place.
-    fn take(&mut self, alloc: Global, at: u64, markup: Markup<'_>) -> Result<(), NoMemory>
+    fn take(&mut self, alloc: Global, at: u64, markup: Markup<'a>) -> Result<(), NoMemory>
         ensures { OnOk result (state_of self.new ≡ changed at (markup_view markup.entry) (state_of self.old)) }
     {
         match markup {
-            Markup::Start(opening) => {
-                self.open.push(Open::new(alloc, opening, at))?;
-                Ok(())
-            }
+            Markup::Start(opening) => self.start(Open::new(alloc, opening, at)),
             Markup::Empty(opening) => {
-                let element = Open::new(alloc, opening, at).end(alloc)?;
+                let element = empty_element(alloc, opening, at)?;
                 self.adopt(element)
             }
             Markup::Finish(_) => self.finish(alloc),
@@ -189,7 +227,7 @@ impl State {
                 self.is_declared = true;
                 Ok(())
             }
-            Markup::Content(_, text) => self.add_text(text.as_str()),
+            Markup::Content(_, text) => self.add_text(alloc, text),
             Markup::Bad => Ok(()),
         }
     }
@@ -201,21 +239,21 @@ impl State {
         alloc: Global,
         total: usize,
         rest: &[u8],
-        item: Item<'_>,
+        item: Item<'a>,
     ) -> Result<(), Stop>
         requires { length rest.now ≤ total }
         ensures { MatchResult result (λ _. step total (entry_of rest.now (item_view item.entry)) (state_of self.old) ≡ Ok (state_of self.new)) (λ stop. Fails stop (step total (entry_of rest.now (item_view item.entry)) (state_of self.old))) }
     {
         let at = total - rest.len();
-        if opens(rest) && self.open.len() >= DEPTH {
-            return Err(stop_at(alloc, Kind::TooDeep, at));
+        if opens(rest) && self.depth() >= DEPTH {
+            return Err(stop(alloc, Kind::TooDeep, at));
         }
         if self.lacks_end(item) {
-            return Err(stop_at(alloc, Kind::Unfinished, total));
+            return Err(stop(alloc, Kind::Unfinished, total));
         }
         let markup = markup_of(alloc, item)?;
         if !self.allows(&markup) {
-            return Err(stop_at(alloc, Kind::BadText, at));
+            return Err(stop(alloc, Kind::BadText, at));
         }
         self.take(alloc, at as u64, markup)?;
         Ok(())
@@ -223,12 +261,12 @@ impl State {
 
     /// The root, where it has ended.
     pub(crate) fn into_root(self, alloc: Global, total: usize) -> Result<Element, Stop>
-        ensures { Gives plain result (root_or_fault total (state_of self).root) }
+        ensures { Gives plain result (root_or_fault total (state_of self.entry).root) }
     {
         let root = self.root;
         match root {
             Some(root) => Ok(root),
-            None => Err(stop_at(alloc, Kind::Unfinished, total)),
+            None => Err(stop(alloc, Kind::Unfinished, total)),
         }
     }
 }

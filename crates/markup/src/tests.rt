@@ -1,7 +1,11 @@
+mod plain;
+
 use crate::{Element, read};
 use outside::{Kind, Stop};
+use plain::read_slowly;
 use std::alloc::{AllocError, Global};
 use std::fmt::Write;
+use std::process::Abort;
 use std::test::Fail;
 
 /// Right texts, with the tree of each: name, `@` and place, attributes, own text in bars, children in braces.
@@ -42,7 +46,7 @@ const TREES: [(&str, &str); 24] = [
 ];
 
 /// Texts without a tree, with the one fault of each and its place.
-const FAULTS: [(&[u8], Kind, u64); 66] = [
+const FAULTS: [(&[u8], Kind, u64); 80] = [
     (b"", Kind::Unfinished, 0),
     (b" ", Kind::Unfinished, 1),
     (b"\xEF\xBB\xBF", Kind::Unfinished, 3),
@@ -109,6 +113,24 @@ const FAULTS: [(&[u8], Kind, u64); 66] = [
     (b"<a>&amp</a>", Kind::BadText, 3),
     (b"<a>&x;<", Kind::BadText, 3),
     (b"<a></b><", Kind::BadText, 3),
+    (b"<a><!--", Kind::Unfinished, 7),
+    (b"<a><!--><", Kind::Unfinished, 9),
+    (b"<a><?b?", Kind::Unfinished, 7),
+    (b"<a><!b", Kind::Unfinished, 6),
+    (b"<a></a><!--", Kind::Unfinished, 11),
+    (b"<a>&nope;<!--", Kind::BadText, 3),
+    (b"<a><b c='&nope;'/>&nope;</a>", Kind::BadText, 3),
+    (b"<a>&nope;<b c='&nope;'/></a>", Kind::BadText, 3),
+    (b"<a/>\n<!--\x01-->&nope;", Kind::BadText, 5),
+    (b"<a/><?b?></a>", Kind::BadText, 9),
+    (b"<!--b--><![CDATA[x]]><a/>", Kind::BadText, 8),
+    (
+        b"<!DOCTYPE a [<!ENTITY b 'c'>]><a>&b;</a>",
+        Kind::BadText,
+        0,
+    ),
+    (b"<a><b c=\"'>\"/></a><b c='\">'/>", Kind::BadText, 18),
+    (b"<a><b c=\"</b></a>", Kind::BadText, 3),
 ];
 
 /// Right texts of which each front from a length on lacks its end, with every form of item. A front of the
@@ -193,6 +215,9 @@ fn goes_64_deep(rt: HostRuntime) -> Result<(), Fail> {
         ("x", Some((Kind::Unfinished, 193))),
         ("", Some((Kind::Unfinished, 192))),
         ("</a><b>", Some((Kind::Unfinished, 199))),
+        ("&nope;<b>", Some((Kind::BadText, 192))),
+        ("x<b>&nope;", Some((Kind::TooDeep, 193))),
+        ("</a><b/><b><c>", Some((Kind::TooDeep, 203))),
     ];
     let mut open = String::new(rt.alloc());
     for _ in 0..64 {
@@ -222,6 +247,157 @@ fn finds_attributes(rt: HostRuntime) -> Result<(), Fail> {
             assert!(rt; element.children().is_empty());
         }
         Err(_) => assert!(rt; false, "refused"),
+    }
+    Ok(())
+}
+
+// What the reader makes of a text, as a line.
+fn read_line(alloc: Global, text: &[u8]) -> Result<String, AllocError> {
+    let mut line = String::new(alloc);
+    match read(alloc, text) {
+        Ok(element) => show(&element, &mut line)?,
+        Err(Stop::At(spot)) => write!(line, "{} {}", spot.kind.name(), spot.at)?,
+        Err(Stop::NoMemory) => line.push_str("no memory")?,
+    }
+    Ok(line)
+}
+
+// Ends the test where the plain reader makes something else of a text.
+fn compare(rt: &impl Abort, alloc: Global, text: &[u8]) -> Result<(), AllocError> {
+    let want = read_slowly(alloc, text)?;
+    let line = read_line(alloc, text)?;
+    let shown = text.escape_ascii();
+    assert_eq!(rt; line, want, "{shown}");
+    Ok(())
+}
+
+/// Items of every kind, right and wrong.
+const ITEMS: [&str; 30] = [
+    " ",
+    "x",
+    "&amp;",
+    "&#0;",
+    "&#xD800;",
+    "&nope;",
+    "]]>",
+    "\u{1}",
+    "\u{e4}",
+    "<a>",
+    "<b c='d'>",
+    "</a>",
+    "</b>",
+    "</a\n>",
+    "<a/>",
+    "<e f='g' f=\"h\" />",
+    "<e f=g>",
+    "<e f='<'>",
+    "<e f='&nope;'/>",
+    "< a>",
+    "<>",
+    "<!---->",
+    "<!-- -- -->",
+    "<!-->",
+    "<?x?>",
+    "<?>",
+    "<!DOCTYPE a>",
+    "<!DOCTYPE a[]>",
+    "<![CDATA[x]]>",
+    "<",
+];
+
+// Each item with each other, before the root element, in it and behind it.
+#[test]
+fn agrees_on_items(rt: HostRuntime) -> Result<(), Fail> {
+    let alloc = rt.alloc();
+    for first in ITEMS {
+        for second in ITEMS {
+            let texts = [
+                format!(in alloc; "{first}{second}")?,
+                format!(in alloc; "{first}{second}<r/>")?,
+                format!(in alloc; "{first}<r>{second}</r>")?,
+                format!(in alloc; "<r>{first}{second}</r>")?,
+                format!(in alloc; "<a>{first}</a>{second}")?,
+                format!(in alloc; "<r/>{first}{second}")?,
+            ];
+            for text in &texts {
+                compare(&rt, alloc, text.as_bytes())?;
+            }
+        }
+    }
+    Ok(())
+}
+
+/// Texts with every kind of item, to be cut and spoiled.
+const SPOILED: [&str; 4] = [
+    "\u{feff}<?x y?><!--z--> <!DOCTYPE a \"b\"><a b=\"1\" c = '>'>x&amp;<!--c--><?d?><e f='/'/></a >\n",
+    "<a>\u{e4}&#x41;&#66;<b><c d='&lt;'/></b>\t</a><!-- - -->",
+    "<a b='1' b='&#50;'><b></b>x<b>]]></b></a>",
+    "<a><![CDATA[x]]></a><!DOCTYPE a>",
+];
+
+/// The bytes that tell most.
+const TELLING: &[u8] = b"<>/!?-&;#x'\"= \na0[\x01\x80\xC3";
+
+// Each front of a text, and the text with one byte left out, put in twice, or replaced by another.
+#[test]
+fn agrees_on_spoiled_texts(rt: HostRuntime) -> Result<(), Fail> {
+    let alloc = rt.alloc();
+    for text in SPOILED {
+        let whole = text.as_bytes();
+        for at in 0..whole.len() {
+            let (front, rest) = whole.split_at(at);
+            compare(&rt, alloc, front)?;
+            let mut spoiled = Vec::from_slice(alloc, front)?;
+            spoiled.extend_from_slice(&rest[1..])?;
+            compare(&rt, alloc, spoiled.as_slice())?;
+            spoiled.insert(at, rest[0])?;
+            compare(&rt, alloc, spoiled.as_slice())?;
+            for byte in TELLING {
+                spoiled[at] = *byte;
+                compare(&rt, alloc, spoiled.as_slice())?;
+            }
+            spoiled[at] = rest[0];
+            spoiled.insert(at, rest[0])?;
+            compare(&rt, alloc, spoiled.as_slice())?;
+        }
+    }
+    Ok(())
+}
+
+// Elements 62 to 66 deep, and then each item.
+#[test]
+fn agrees_on_depths(rt: HostRuntime) -> Result<(), Fail> {
+    let alloc = rt.alloc();
+    let mut front = String::new(alloc);
+    let mut back = String::new(alloc);
+    for depth in 1..67 {
+        front.push_str("<a>")?;
+        back.push_str("</a>")?;
+        if depth < 62 {
+            continue;
+        }
+        for item in ITEMS {
+            let text = format!(in alloc; "{front}{item}{back}")?;
+            compare(&rt, alloc, text.as_bytes())?;
+        }
+    }
+    Ok(())
+}
+
+// Tags with few and with many attributes, of which each name stands once, twice or often.
+#[test]
+fn agrees_on_many_attributes(rt: HostRuntime) -> Result<(), Fail> {
+    let alloc = rt.alloc();
+    for count in [15, 16, 17, 40] {
+        for names in [1, 2, 7, 40] {
+            let mut text = String::from_str(alloc, "<a")?;
+            for k in 0..count {
+                let name = k % names;
+                write!(text, " a{name}='={k}'")?;
+            }
+            text.push_str("/>")?;
+            compare(&rt, alloc, text.as_bytes())?;
+        }
     }
     Ok(())
 }
