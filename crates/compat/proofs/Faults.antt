@@ -1,21 +1,21 @@
 -- The first fault of what is kept is that of the drawings, and an order leaves no cycle.
-use Rattle.std.proofs.Common.{◌≡◌, ◌≢◌, ◌≤◌, ◌<◌, ◌⊎◌, inl, inr, ℕ, zero, suc, ◌+◌, ◌-◌, ℤ, pos, min, Bool, true, false, cond, List, [], ◌∷◌, ◌++◌, length, map, take, drop, append_assoc, get_or, Option, Some, None, refl, sym, ◌∙◌, ap, subst, arith}
-use Rattle.std.specs.Prelude.{All, Contains, sum_by, nat_le, slice_get, slice_index, slice_index_or}
+use Rattle.std.proofs.Common.{◌≡◌, ◌<◌, ℕ, zero, suc, ◌+◌, ℤ, pos, Bool, true, false, List, [], ◌∷◌, ◌++◌, length, take, drop, append_assoc, get_or, Option, Some, None, refl, sym, ◌∙◌, ap, subst, arith}
+use Rattle.std.specs.Prelude.{All, Contains, sum_by, nat_le, slice_index}
 use Rattle.std.specs.Option.{option_or, option_map}
 use Rattle.std.specs.List.{AllZip}
-use Rattle.std.proofs.lemmas.Bool.{le-leb, lt-leb, cases_eq}
-use Rattle.std.proofs.lemmas.Option.{slice_get-get_or, slice_get_within, same_Some, get_or_from_slice_get}
+use Rattle.std.proofs.lemmas.Bool.{le-leb, lt-leb}
+use Rattle.std.proofs.lemmas.Option.{slice_get-get_or, slice_get_within, same_Some}
 use Rattle.std.proofs.lemmas.List.{get_or_default, drop_more}
 use Rattle.std.proofs.lemmas.List.Elements.{All-nil, All-cons, All-from_get_or, All-head, All-tail, All-contains}
 use Rattle.outside.specs.declared.fault.Kind.{Kind}
-use Rattle.outside.specs.declared.fault.Kind.TheVariants.{CoordinateRange, TooManyPoints, ComponentCycle}
+use Rattle.outside.specs.declared.fault.Kind.TheVariants.{CoordinateRange, TooManyPoints}
 use Rattle.glif.specs.declared.shape.Point.{Point}
 use Rattle.glif.specs.declared.shape.Outline.{Outline}
 use Rattle.glif.specs.declared.shape.Drawing.{Drawing}
 use Rattle.compat.specs.References.{bases_at, Reaches, direct, onward, HasNoCycle, IsOrder}
 use Rattle.compat.specs.Names.{number_of, references, dangling_in, dangling_refusal, dangling_from, first_dangling}
-use Rattle.compat.specs.Flattened.{IsFlattened, shown_count, coordinate_outside, flat_fault, HasFlatFault, refusal_of, IsFirstRefusal, dangling, cycle, flat as flat_refusal, IsFlatOutline, AreFlattened}
-use Rattle.compat.specs.Flats.{IsFlatOf, IsKept, AreKept, flat_at, flat_contours, IsCounted, IsFew, kept_fault, fault_from, joined_outlines}
+use Rattle.compat.specs.Flattened.{shown_count, coordinate_outside, flat_fault, HasFlatFault, refusal_of, IsFirstRefusal, dangling, cycle, flat as flat_refusal, IsFlatOutline, AreFlattened}
+use Rattle.compat.specs.Flats.{IsFlatOf, AreKept, flat_contours, IsCounted, IsFew, kept_fault, fault_from, joined_outlines}
 use Rattle.compat.specs.declared.refusal.Refusal.{Refusal}
 use Rattle.compat.specs.declared.flat.Flat.{Flat}
 use Rattle.compat.specs.declared.flat.Flat.TheVariants.{Unknown, Few, Many}

@@ -1,6 +1,6 @@
 -- What is kept of a drawing stands for its flattened outline, where what is kept of its bases stands for theirs.
-use Rattle.std.proofs.Common.{◌≡◌, ◌≢◌, ◌≤◌, ◌<◌, ℕ, zero, suc, ◌+◌, ◌-◌, ◌*◌, min, ℤ, pos, negsuc, ◌+ℤ◌, ◌≤ℤ◌, FitsSigned, w32, Bool, true, false, cond, List, [], ◌∷◌, ◌++◌, length, map, take, set, get_or, Option, Some, None, refl, sym, ◌∙◌, ap, subst, arith, length-append}
-use Rattle.std.specs.Prelude.{All, Contains, sum_by, is_none, nat_le, slice_get, slice_index_or}
+use Rattle.std.proofs.Common.{◌≡◌, ◌≤◌, ◌<◌, ℕ, suc, ◌+◌, min, pos, Bool, true, false, cond, List, [], ◌∷◌, ◌++◌, length, map, get_or, Option, Some, None, refl, sym, ◌∙◌, ap, subst, arith}
+use Rattle.std.specs.Prelude.{All, sum_by, is_none, nat_le}
 use Rattle.std.specs.Option.{option_or, option_map}
 use Rattle.std.specs.List.{position_from, filter_map, cons_option, AllZip}
 use Rattle.std.specs.Str.{bytes_eq}
@@ -15,8 +15,8 @@ use Rattle.glif.specs.declared.shape.Point.{Point}
 use Rattle.glif.specs.declared.shape.Outline.{Outline}
 use Rattle.glif.specs.declared.shape.Component.{Component}
 use Rattle.glif.specs.declared.shape.Drawing.{Drawing}
-use Rattle.compat.specs.Names.{number_of, base_numbers, references, dangling_in, dangling_refusal, dangling_from, first_dangling}
-use Rattle.compat.specs.Flattened.{moved, moved_contours, IsNamed, ArePlaced, nothing, placed, IsFlattened, shown_count, AreFit}
+use Rattle.compat.specs.Names.{number_of, dangling_in, dangling_refusal, dangling_from}
+use Rattle.compat.specs.Flattened.{moved, moved_contours, ArePlaced, nothing, placed}
 use Rattle.compat.specs.Flats.{IsPointNear, AreNear, IsFlatOf, IsKept, CanMove, flat_at, flat_contours, flat_count, joint_count, placed_contours, AreMovable, joined_flat}
 use Rattle.compat.specs.declared.flat.Flat.{Flat}
 use Rattle.compat.specs.declared.flat.Flat.TheVariants.{Unknown, Few, Many}

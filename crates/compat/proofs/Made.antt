@@ -1,9 +1,9 @@
 -- The outlines that are made in an order in which bases come first.
-use Rattle.std.proofs.Common.{◌≡◌, ◌≢◌, ◌≤◌, ◌<◌, ◌⊎◌, inl, inr, ℕ, suc, ◌+◌, ◌-◌, List, [], ◌∷◌, ◌++◌, length, map, take, set, get_or, Option, Some, None, refl, sym, ◌∙◌, ap, subst, arith}
+use Rattle.std.proofs.Common.{◌≡◌, ◌≤◌, ◌<◌, inl, inr, ℕ, ◌+◌, List, [], ◌∷◌, length, take, set, get_or, Option, Some, None, refl, sym, ◌∙◌, ap, subst, arith}
 use Rattle.std.specs.Prelude.{All, Contains, slice_get, slice_index, slice_index_or}
 use Rattle.std.specs.List.{filter_map, cons_option, AllZip}
 use Rattle.std.proofs.lemmas.Bool.{cases_eq}
-use Rattle.std.proofs.lemmas.Option.{slice_get-get_or, slice_get_within, same_Some, get_or_from_slice_get}
+use Rattle.std.proofs.lemmas.Option.{get_or_from_slice_get}
 use Rattle.std.proofs.lemmas.List.{get_or-set_same, get_or-set_other, get_or-take, get_or_default, length-map}
 use Rattle.std.proofs.Math.ListN.{get_or-map}
 use Rattle.std.proofs.lemmas.List.Elements.{All-nil, All-cons, All-weaker}
@@ -12,8 +12,8 @@ use Rattle.glif.specs.Limits.{IsWithinLimits, IsOffsetWithin}
 use Rattle.glif.specs.declared.shape.Component.{Component}
 use Rattle.glif.specs.declared.shape.Drawing.{Drawing}
 use Rattle.compat.specs.References.{bases_at, IsClosed, IsOrder}
-use Rattle.compat.specs.Names.{number_of, base_numbers, references, dangling_in, first_dangling}
-use Rattle.compat.specs.Flattened.{IsFlattened, AreFit}
+use Rattle.compat.specs.Names.{number_of, base_numbers, references, first_dangling}
+use Rattle.compat.specs.Flattened.{AreFit}
 use Rattle.compat.specs.Flats.{IsFlatOf, IsKept, AreKept, HasBases, IsJoined, AreMovable, joined_flat}
 use Rattle.compat.specs.declared.flat.Flat.{Flat}
 use Rattle.compat.specs.declared.flat.Flat.TheVariants.{Unknown, Few, Many}

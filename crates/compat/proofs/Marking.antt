@@ -1,11 +1,11 @@
 -- A search marks what it reaches, and all of it.
-use Rattle.std.proofs.Common.{◌≡◌, ◌≢◌, ◌≤◌, ◌<◌, ◌⊎◌, inl, inr, ℕ, zero, suc, ◌+◌, ◌-◌, Bool, true, false, cond, List, [], ◌∷◌, ◌++◌, length, map, take, set, get_or, replicate, Option, Some, None, refl, sym, ◌∙◌, ap, subst, arith, add-one, length-append, length-set}
-use Rattle.std.specs.Prelude.{All, Contains, slice_index, slice_index_or, slice_get, sum_by}
+use Rattle.std.proofs.Common.{◌≡◌, ◌<◌, ◌⊎◌, inl, inr, ℕ, zero, suc, Bool, true, false, List, [], ◌∷◌, ◌++◌, length, set, replicate, refl, sym, ◌∙◌, ap, subst, arith, length-append, length-set}
+use Rattle.std.specs.Prelude.{All, Contains, slice_index_or}
 use Rattle.std.proofs.lemmas.Bool.{cases_eq, cases_lt}
 use Rattle.std.proofs.lemmas.List.{get_or-set_same, get_or-set_other, get_or_past, get_or_default, length-replicate}
 use Rattle.std.proofs.lemmas.List.Sums.{sum_by-set}
-use Rattle.std.proofs.lemmas.List.Elements.{All-nil, All-weaker, All-contains, Contains-push, Contains-append_left, Contains-push_cases}
-use Rattle.compat.specs.References.{bases_at, Reaches, direct, onward, HasCycle, IsClosed}
+use Rattle.std.proofs.lemmas.List.Elements.{All-weaker, All-contains, Contains-push, Contains-append_left, Contains-push_cases}
+use Rattle.compat.specs.References.{bases_at, Reaches, direct, onward, IsClosed}
 use Rattle.compat.specs.Searches.{is_marked, unmarked, work_left, IsMarking, AreMarkings, IsSearch}
 use Rattle.compat.proofs.Steps.{then_direct}
 

@@ -1,7 +1,6 @@
 -- Which drawing each component names.
-use Rattle.std.proofs.Common.{◌≡◌, ◌≤◌, ◌<◌, ℕ, ◌+◌, ◌-◌, Bool, true, false, cond, List, [], ◌∷◌, ◌++◌, length, map, take, drop, get_or, Option, Some, None, refl, sym, ◌∙◌, ap, subst, arith, append_assoc}
+use Rattle.std.proofs.Common.{◌≡◌, ◌<◌, ℕ, ◌+◌, Bool, true, false, cond, List, [], ◌∷◌, ◌++◌, length, map, take, drop, get_or, Option, Some, None, refl, sym, ◌∙◌, ap, arith}
 use Rattle.std.specs.Prelude.{is_none}
-use Rattle.std.specs.Option.{option_or, option_map}
 use Rattle.std.specs.List.{position_from, filter_map}
 use Rattle.std.specs.Map.{update}
 use Rattle.std.specs.Str.{bytes_eq}
@@ -10,8 +9,7 @@ use Rattle.std.proofs.lemmas.List.Elements.{filter_map-append}
 use Rattle.std.proofs.lemmas.Grind.{common_steps}
 use Rattle.glif.specs.declared.shape.Component.{Component}
 use Rattle.glif.specs.declared.shape.Drawing.{Drawing}
-use Rattle.compat.specs.Names.{number_in, number_of, base_numbers, references, dangling_in, dangling_refusal, dangling_from, first_dangling}
-use Rattle.compat.specs.declared.refusal.Refusal.{Refusal}
+use Rattle.compat.specs.Names.{base_numbers, dangling_in, dangling_refusal, dangling_from}
 
 take_more : {X : Type 0} (xs : List X) (i : ℕ) (d : X) → i < length xs → take (i + 1) xs ≡ take i xs ++ get_or xs i d ∷ []
 take_more xs i d less = grind (arith, common_steps)

@@ -1,15 +1,14 @@
 -- The steps of a walk keep what it keeps true, and an open base closes a cycle.
-use Rattle.std.proofs.Common.{◌≡◌, ◌≢◌, ◌≤◌, ◌<◌, ◌⊎◌, inl, inr, ℕ, zero, suc, ◌+◌, ◌-◌, Bool, true, false, List, [], ◌∷◌, ◌++◌, length, map, take, set, get_or, Option, Some, None, refl, sym, ◌∙◌, ap, subst, arith, add-one, add-zero, length-append, length-set}
-use Rattle.std.specs.Prelude.{All, Contains, slice_index, slice_index_or, slice_get, sum_by}
+use Rattle.std.proofs.Common.{◌≡◌, ◌≢◌, ◌≤◌, ◌<◌, ◌⊎◌, inl, inr, ℕ, zero, suc, ◌+◌, ◌-◌, List, [], ◌∷◌, ◌++◌, length, map, set, Some, None, refl, sym, ◌∙◌, ap, subst, arith, add-zero, length-append, length-set}
+use Rattle.std.specs.Prelude.{Contains, slice_index, slice_index_or, slice_get}
 use Rattle.std.proofs.lemmas.Bool.{cases_eq}
 use Rattle.std.proofs.lemmas.List.{length-map, get_or-map, get_or-set_same, get_or-set_other, get_or_append_left, take-append-le, get_or_default}
 use Rattle.std.proofs.Math.Seq.{get_or-append_seam, take-append_seam}
 use Rattle.std.proofs.lemmas.List.Sums.{sum_by-set, sum_by-cons}
 use Rattle.std.proofs.lemmas.List.Elements.{All-nil, All-push, All-pop, All-contains, All-from_get_or, All-weaker, Contains-get_or, Contains-push, Contains-append_left, Contains-push_cases}
 use Rattle.std.proofs.lemmas.Option.{same_Some, slice_get_within, slice_get-get_or}
-use Rattle.std.proofs.lemmas.Grind.{common_steps}
 use Rattle.compat.specs.References.{bases_at, Reaches, direct, onward, HasCycle, IsClosed, IsOrder}
-use Rattle.compat.specs.Walks.{blank, mark_at, left_at, newness, count_new, steps_left, IsNextBase, IsWalk, StaySeen, AreSeen, IsStep}
+use Rattle.compat.specs.Walks.{blank, mark_at, left_at, newness, count_new, IsNextBase, IsWalk, StaySeen, AreSeen, IsStep}
 use Rattle.compat.specs.declared.order.Mark.{Mark}
 use Rattle.compat.specs.declared.order.Mark.TheVariants.{New, Open, Done}
 use Rattle.compat.specs.declared.order.Node.{Node}

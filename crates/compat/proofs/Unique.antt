@@ -1,5 +1,5 @@
 -- A drawing has at most one flattened outline, and drawings at most one first fault.
-use Rattle.std.proofs.Common.{◌≡◌, ◌≤◌, ◌<◌, ◌⊎◌, inl, inr, ℕ, zero, suc, ◌+◌, ℤ, pos, List, [], ◌∷◌, ◌++◌, length, get_or, Option, Some, None, refl, sym, ◌∙◌, ap, subst, arith}
+use Rattle.std.proofs.Common.{◌≡◌, ◌<◌, inl, inr, ℕ, zero, suc, ℤ, pos, List, [], ◌∷◌, ◌++◌, Option, Some, None, refl, sym, ◌∙◌, ap, subst, arith}
 use Rattle.std.specs.Prelude.{slice_get}
 use Rattle.std.specs.List.{AllZip}
 use Rattle.std.proofs.lemmas.Bool.{cases_order}
@@ -10,8 +10,8 @@ use Rattle.glif.specs.declared.shape.Point.{Point}
 use Rattle.glif.specs.declared.shape.Outline.{Outline}
 use Rattle.glif.specs.declared.shape.Component.{Component}
 use Rattle.glif.specs.declared.shape.Drawing.{Drawing}
-use Rattle.compat.specs.References.{Reaches, HasNoCycle, IsFirstOnCycle}
-use Rattle.compat.specs.Names.{number_of, references, first_dangling}
+use Rattle.compat.specs.References.{IsFirstOnCycle}
+use Rattle.compat.specs.Names.{references}
 use Rattle.compat.specs.Flattened.{moved_contours, IsNamed, ArePlaced, nothing, placed, IsFlattened, flat_fault, HasFlatFault, refusal_of, IsFirstRefusal, dangling, cycle, flat, IsFlatOutline, AreFlattened}
 use Rattle.compat.specs.declared.refusal.Refusal.{Refusal}
 

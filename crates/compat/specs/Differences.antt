@@ -1,6 +1,6 @@
 -- The first difference between two outlines of a glyph in the kinds of their points, and between two drawings of it
 -- in their components.
-use Rattle.std.specs.Prelude.{ℕ, ◌+◌, ℤ, pos, ◌==◌, ◌&&◌, Bool, true, false, List, [], ◌∷◌, length, map, Option, Some, None, if◌then◌else◌, nat_eq}
+use Rattle.std.specs.Prelude.{ℕ, ◌+◌, ℤ, pos, ◌==◌, ◌&&◌, Bool, List, ◌∷◌, length, map, Option, Some, None, if◌then◌else◌, nat_eq}
 use Rattle.std.proofs.Math.Bool.{beq}
 use Rattle.std.specs.Option.{option_or}
 use Rattle.std.specs.List.{common_prefix_len}

@@ -1,5 +1,5 @@
 -- The drawings that components name, by number, and the first component that names none.
-use Rattle.std.specs.Prelude.{ℕ, ◌+◌, pos, List, [], ◌∷◌, map, Option, Some, None, is_none}
+use Rattle.std.specs.Prelude.{ℕ, ◌+◌, pos, List, [], ◌∷◌, map, Option, None, is_none}
 use Rattle.std.specs.Option.{option_or, option_map}
 use Rattle.std.specs.List.{position_from, filter_map}
 use Rattle.std.specs.Str.{bytes_eq}

@@ -1,6 +1,6 @@
 -- What refers to what. The things are numbered from 0, and a list gives for each the numbers of those that it refers
 -- to: for each drawing the numbers of its components' bases.
-use Rattle.std.specs.Prelude.{◌≡◌, ℕ, ◌+◌, ◌<◌, ◌≤◌, ◌-◌, Bool, List, [], ◌∷◌, length, map, take, All, Contains, Option, Some, None, slice_index, slice_index_or}
+use Rattle.std.specs.Prelude.{ℕ, ◌<◌, ◌≤◌, List, [], length, take, All, Contains, slice_index, slice_index_or}
 
 -- the numbers of those to which the one of this number refers
 abbrev pub bases_at : List (List ℕ) → ℕ → List ℕ

@@ -1,5 +1,5 @@
 -- A search for all that one thing reaches, and what it keeps true.
-use Rattle.std.specs.Prelude.{◌≡◌, ◌≢◌, ℕ, ◌+◌, ◌<◌, ◌⊎◌, Bool, true, false, List, [], ◌∷◌, length, take, All, Contains, slice_index_or, sum_by}
+use Rattle.std.specs.Prelude.{◌≡◌, ◌≢◌, ℕ, ◌+◌, ◌<◌, ◌⊎◌, Bool, true, false, List, length, All, Contains, slice_index_or, sum_by}
 use Rattle.compat.specs.References.{bases_at, Reaches}
 
 -- whether the one of this number is marked

@@ -1,5 +1,5 @@
 -- A walk through all references, depth first, and what it keeps true.
-use Rattle.std.specs.Prelude.{◌≡◌, ℕ, suc, ◌+◌, ◌<◌, ◌≤◌, ◌-◌, Bool, List, [], ◌∷◌, length, map, take, All, Contains, Option, Some, None, slice_index, slice_index_or, sum_by}
+use Rattle.std.specs.Prelude.{◌≡◌, ℕ, ◌+◌, ◌<◌, ◌≤◌, ◌-◌, List, [], length, take, All, Contains, slice_index, slice_index_or, sum_by}
 use Rattle.compat.specs.References.{bases_at}
 use Rattle.compat.specs.declared.order.Mark.{Mark}
 use Rattle.compat.specs.declared.order.Mark.TheVariants.{New, Open, Done}

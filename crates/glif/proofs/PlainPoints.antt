@@ -5,11 +5,11 @@ use Rattle.std.proofs.lemmas.Bool.{cond-true, and_from, le-leb}
 use Rattle.std.proofs.lemmas.Int.{ints}
 use Rattle.std.proofs.lemmas.List.Elements.{All-head, All-tail}
 use Rattle.fixpoint.specs.declared.decimal.NumberFault.{NumberFault}
-use Rattle.markup_rules.specs.Tree.{Tree, node, no_trees, attribute_of, children_of}
+use Rattle.markup_rules.specs.Tree.{Tree, node, no_trees, attribute_of, children_of, is_named}
 use Rattle.markup_rules.specs.Syntax.{tag_then, children_from}
 use Rattle.outside.specs.Reading.{◌>>=◌, each}
 use Rattle.glif.specs.declared.shape.Point.{Point}
-use Rattle.glif.specs.Attributes.{number_or_fault, needed, ranged, whole, coordinate, is_named}
+use Rattle.glif.specs.Attributes.{number_or_fault, needed, ranged, whole, coordinate}
 use Rattle.glif.specs.Contours.{point_of, points_of, type_of, is_move, is_on, ends_on, line_after_off, is_passed_over, closed, contour_of}
 use Rattle.glif.specs.Limits.{IsPointWithin, IsContourWithin}
 use Rattle.glif.specs.Plain.{Number, Place, number_text, value_of, IsNumber, IsPlace}

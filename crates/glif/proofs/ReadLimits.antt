@@ -7,13 +7,13 @@ use Rattle.std.proofs.lemmas.Bool.Decides.{nat_tests}
 use Rattle.std.proofs.lemmas.List.Elements.{All-nil, All-cons, All-append}
 use Rattle.outside.specs.Reading.{◌>>=◌, each, in_turn}
 use Rattle.outside.specs.declared.fault.Spot.{Spot}
-use Rattle.markup_rules.specs.Tree.{Tree, attribute_of, children_of}
+use Rattle.markup_rules.specs.Tree.{Tree, attribute_of, children_of, is_named}
 use Rattle.glif.specs.declared.shape.Component.{Component}
 use Rattle.glif.specs.declared.shape.Drawing.{Drawing}
 use Rattle.glif.specs.declared.shape.Point.{Point}
 use Rattle.glif.specs.declared.outline.Shapes.{Shapes}
 use Rattle.glif.specs.declared.glyph.Seen.{Seen}
-use Rattle.glif.specs.Attributes.{coordinate, is_named, needed, optional, ranged, whole, whole_or_zero}
+use Rattle.glif.specs.Attributes.{coordinate, needed, optional, ranged, whole, whole_or_zero}
 use Rattle.glif.specs.Components.{component_of, matrix}
 use Rattle.glif.specs.Contours.{closed, contour_of, ends_on, is_passed_over, line_after_off, lined, on_by, point_elements, point_of, points_of, starts_with_move, type_of}
 use Rattle.glif.specs.Glyphs.{advance_seen, child_of, code_of, drawing_of, drawn, few, format_of, no_shapes, nothing_seen, outline_of, outline_seen, shape_of, with_component, with_contour}

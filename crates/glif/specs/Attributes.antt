@@ -1,18 +1,14 @@
 -- Attributes of an element and the numbers in them: the value, or the fault of the element. All places are those
 -- of elements, and the item of a fault of an attribute is the attribute's name.
-use Rattle.std.specs.Prelude.{ℕ, ℤ, pos, negsuc, int_le, Bool, ◌&&◌, List, [], Option, Some, None, Result, Ok, Err, if◌then◌else◌}
-use Rattle.std.specs.Str.{bytes_eq}
+use Rattle.std.specs.Prelude.{ℕ, ℤ, pos, negsuc, int_le, ◌&&◌, List, [], Option, Some, None, Result, Ok, Err, if◌then◌else◌}
 use Rattle.fixpoint.specs.DecimalText.{whole_of}
 use Rattle.fixpoint.specs.declared.decimal.NumberFault.{NumberFault}
 use Rattle.fixpoint.specs.declared.decimal.NumberFault.TheVariants as number
-use Rattle.markup_rules.specs.Tree.{Tree, at_of, attribute_of, name_of}
+use Rattle.markup_rules.specs.Tree.{Tree, at_of, attribute_of}
 use Rattle.outside.specs.Reading.{◌>>=◌, spot_of}
 use Rattle.outside.specs.declared.fault.Kind.{Kind}
 use Rattle.outside.specs.declared.fault.Kind.TheVariants.{NotNumber, NotWhole, NumberRange, CoordinateRange, MissingAttribute}
 use Rattle.outside.specs.declared.fault.Spot.{Spot}
-
-abbrev pub is_named : List ℕ → Tree → Bool
-is_named name tree = bytes_eq (name_of tree) name
 
 -- a fault of the element, and one of an attribute of it
 abbrev pub fault : {A : Type 0} → Kind → Tree → Result A Spot

@@ -6,7 +6,7 @@ use Rattle.std.specs.Str.{bytes_eq}
 use Rattle.std.specs.Str.Parse.{digits_value}
 use Rattle.fixpoint.specs.DecimalText.{whole_of}
 use Rattle.fixpoint.specs.declared.decimal.NumberFault.{NumberFault}
-use Rattle.markup_rules.specs.Tree.{Tree, at_of, attribute_of, children_of}
+use Rattle.markup_rules.specs.Tree.{Tree, at_of, attribute_of, children_of, is_named}
 use Rattle.outside.specs.Reading.{◌>>=◌, in_turn, spot_of}
 use Rattle.outside.specs.declared.fault.Kind.TheVariants.{BadCode, FormatVersion, NotGlif, TooManyPoints}
 use Rattle.outside.specs.declared.fault.Spot.{Spot}
@@ -15,7 +15,7 @@ use Rattle.glif.specs.declared.shape.Drawing.{Drawing}
 use Rattle.glif.specs.declared.shape.Point.{Point}
 use Rattle.glif.specs.declared.outline.Shapes.{Shapes}
 use Rattle.glif.specs.declared.glyph.Seen.{Seen}
-use Rattle.glif.specs.Attributes.{fault, is_named, needed, optional}
+use Rattle.glif.specs.Attributes.{fault, needed, optional}
 use Rattle.glif.specs.Components.{component_of}
 use Rattle.glif.specs.Contours.{contour_of}
 use Rattle.glif.specs.FirstOutside.{point_count}

@@ -2,20 +2,13 @@ ghost use Rattle.std.specs.Prelude.{◌≡◌, [], pos};
 ghost use Rattle.outside.specs.Reading.{Gives, IsStop, spot_of};
 ghost use Rattle.markup_rules.specs.Tree.{at_of};
 ghost use Rattle.markup.specs.Plain.{plain};
-ghost use Rattle.glif.specs.Attributes.{coordinate, is_named, needed, number_kind, number_or_fault, optional, ranged, whole};
+ghost use Rattle.glif.specs.Attributes.{coordinate, needed, number_kind, number_or_fault, optional, ranged, whole};
 
 use crate::limits::{GREATEST, LEAST};
 use fixpoint::{NumberFault, parse_whole};
 use markup::Element;
 use outside::{Kind, Stop, stop_at};
 use std::alloc::Global;
-
-/// Whether the element has this name.
-pub(crate) fn is_named(element: &Element, name: &str) -> bool
-    ensures { result ≡ is_named name.now (plain element.now) }
-{
-    element.name() == name
-}
 
 /// The stop at a fault of the element.
 pub(crate) fn fault(alloc: Global, kind: Kind, element: &Element) -> Stop

@@ -1,10 +1,10 @@
 ghost use Rattle.std.specs.Prelude.{◌≡◌, map, filter, codes};
 ghost use Rattle.outside.specs.Reading.{Gives};
 ghost use Rattle.markup.specs.Plain.{plain};
-ghost use Rattle.glif.specs.Attributes as attributes;
+ghost use Rattle.markup_rules.specs.Tree.{is_named};
 ghost use Rattle.glif.specs.Contours.{closed, contour_of, ends_on, is_line, is_move, is_passed_over, line_after_off, lined, on_by, point_of, points_of, starts_with_move, type_of};
 
-use crate::attributes::{coordinate, fault, is_named};
+use crate::attributes::{coordinate, fault};
 use crate::limits::CONTOUR_POINTS;
 use crate::shape::Point;
 use markup::Element;
@@ -94,7 +94,7 @@ fn is_on(
 fn read_point(alloc: Global, is_first: bool, element: &Element) -> Result<Point, Stop>
     ensures { Gives (λ point. point) result (point_of is_first (plain element.now)) }
 {
-    if !is_named(element, "point") {
+    if !element.is_named("point") {
         return Err(fault(alloc, Kind::NotGlif, element));
     }
     let x = coordinate(alloc, "x", element)?;
@@ -193,11 +193,11 @@ fn closed(alloc: Global, contour: &Element, points: Seq<Point>) -> Result<Seq<Po
 
 /// Whether a contour of these elements is passed over: without points, or with a single one of the type `move`.
 fn is_passed_over(elements: &[Element]) -> bool
-    ensures { result ≡ is_passed_over (filter (attributes.is_named (codes "point")) (map plain elements.now)) }
+    ensures { result ≡ is_passed_over (filter (is_named (codes "point")) (map plain elements.now)) }
 {
     let mut only: Option<&Element> = None;
     for element in elements {
-        if is_named(element, "point") {
+        if element.is_named("point") {
             if only.is_some() {
                 return false;
             }

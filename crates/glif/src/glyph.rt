@@ -6,7 +6,7 @@ ghost use Rattle.glif.specs.Glyphs.{advance_seen, child_of, drawing_of, drawn, f
 ghost use Rattle.glif.specs.Limits.{IsOffsetWithin, IsWithinLimits};
 ghost use Rattle.glif.specs.declared.shape.Drawing.{Drawing};
 
-use crate::attributes::{fault, is_named, needed, optional};
+use crate::attributes::{fault, needed, optional};
 use crate::code::{Codes, read_code};
 use crate::outline::{Shapes, read_outline};
 use crate::shape::{Drawing, Outline};
@@ -67,17 +67,17 @@ fn read_shapes(alloc: Global, mut seen: Seen, outline: &Element) -> Result<Seen,
 fn read_child(alloc: Global, seen: Seen, element: &Element) -> Result<Seen, Stop>
     ensures { Gives (λ seen. seen) result (child_of seen (plain element.now)) }
 {
-    if is_named(element, "advance") {
+    if element.is_named("advance") {
         let seen = read_advance(alloc, seen, element)?;
         Ok(seen)
-    } else if is_named(element, "unicode") {
+    } else if element.is_named("unicode") {
         let code = read_code(alloc, element)?;
         let seen = Seen {
             codes: seen.codes.with(code)?,
             ..seen
         };
         Ok(seen)
-    } else if is_named(element, "outline") {
+    } else if element.is_named("outline") {
         let seen = read_shapes(alloc, seen, element)?;
         Ok(seen)
     } else {
@@ -161,7 +161,7 @@ fn drawn(alloc: Global, name: Name, seen: Seen) -> Drawing
 fn read_drawing(alloc: Global, tree: &Element) -> Result<Drawing, Stop>
     ensures { Gives (λ drawing. drawing) result (drawing_of (plain tree.now)) }
 {
-    if !is_named(tree, "glyph") {
+    if !tree.is_named("glyph") {
         return Err(fault(alloc, Kind::NotGlif, tree));
     }
     check_format(alloc, tree)?;

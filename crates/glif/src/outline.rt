@@ -3,7 +3,7 @@ ghost use Rattle.outside.specs.Reading.{Gives};
 ghost use Rattle.markup.specs.Plain.{plain};
 ghost use Rattle.glif.specs.Glyphs.{few, no_shapes, outline_of, shape_of};
 
-use crate::attributes::{fault, is_named};
+use crate::attributes::fault;
 use crate::component::read_component;
 use crate::contour::read_contour;
 use crate::limits::{GLYPH_POINTS, point_count};
@@ -36,13 +36,13 @@ impl Shapes {
 fn read_shape(alloc: Global, mut shapes: Shapes, element: &Element) -> Result<Shapes, Stop>
     ensures { Gives (λ shapes. shapes) result (shape_of shapes (plain element.now)) }
 {
-    if is_named(element, "contour") {
+    if element.is_named("contour") {
         let contour = read_contour(alloc, element)?;
         if let Some(points) = contour {
             shapes.contours.push(points)?;
         }
         Ok(shapes)
-    } else if is_named(element, "component") {
+    } else if element.is_named("component") {
         let component = read_component(alloc, element)?;
         shapes.components.push(component)?;
         Ok(shapes)

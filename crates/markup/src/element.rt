@@ -17,7 +17,7 @@ pub struct Element {
 
 impl Element {
     ghost use Rattle.std.specs.Prelude.{◌≡◌, map, option_map};
-    ghost use Rattle.markup_rules.specs.Tree.{at_of, attribute_of, attributes_of, children_of, name_of, text_of};
+    ghost use Rattle.markup_rules.specs.Tree.{at_of, attribute_of, attributes_of, children_of, is_named, name_of, text_of};
     ghost use Rattle.markup.specs.Plain.{plain};
 
     /// The element's name.
@@ -26,6 +26,14 @@ impl Element {
         ensures { result.now ≡ name_of (plain self.now) }
     {
         self.name.as_str()
+    }
+
+    /// Whether the element has this name.
+    #[tactic(auto, using(crate::proofs::PlainLemmas::name_plain))]
+    pub fn is_named(&self, name: &str) -> bool
+        ensures { result ≡ is_named name.now (plain self.now) }
+    {
+        self.name() == name
     }
 
     /// The names and values of its attributes, in their order; no two have one name.

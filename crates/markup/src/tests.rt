@@ -245,6 +245,7 @@ fn finds_attributes(rt: HostRuntime) -> Result<(), Fail> {
             assert_eq!(rt; element.attribute("c"), Some(""));
             assert_eq!(rt; element.attribute("d"), None);
             assert!(rt; element.children().is_empty());
+            assert!(rt; element.is_named("a") && !element.is_named("A"));
         }
         Err(_) => assert!(rt; false, "refused"),
     }

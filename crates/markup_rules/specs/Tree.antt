@@ -1,5 +1,5 @@
 -- The tree of a source text: what elements are, without how code keeps them.
-use Rattle.std.specs.Prelude.{ℕ, List, [], ◌∷◌, Option, Some, None, if◌then◌else◌}
+use Rattle.std.specs.Prelude.{ℕ, Bool, List, [], ◌∷◌, Option, Some, None, if◌then◌else◌}
 use Rattle.std.specs.Str.{bytes_eq}
 
 -- an element: its name, its attributes as names with values, its children, its own text, and the place of
@@ -22,6 +22,9 @@ list_of (and_trees t ts) = t ∷ list_of ts
 
 abbrev pub name_of : Tree → List ℕ
 name_of (node name attributes children text at) = name
+
+abbrev pub is_named : List ℕ → Tree → Bool
+is_named name tree = bytes_eq (name_of tree) name
 
 abbrev pub attributes_of : Tree → List (List ℕ × List ℕ)
 attributes_of (node name attributes children text at) = attributes

@@ -6,15 +6,12 @@ use Rattle.std.specs.Str.{bytes_eq}
 use Rattle.outside.specs.Reading.{◌>>=◌, spot_of}
 use Rattle.outside.specs.declared.fault.Kind.TheVariants.{NotPlist}
 use Rattle.outside.specs.declared.fault.Spot.{Spot}
-use Rattle.markup_rules.specs.Tree.{Tree, node, Trees, no_trees, and_trees, at_of, children_of, name_of, text_of, trees_of}
+use Rattle.markup_rules.specs.Tree.{and_trees, at_of, children_of, is_named, name_of, no_trees, node, text_of, Tree, Trees, trees_of}
 use Rattle.plist.specs.declared.form.Form.{Form}
 use Rattle.plist.specs.declared.form.Form.TheVariants.{Text, Number, True, False, Array, Dict, Unread, Unknown}
 use Rattle.plist.specs.Entries.{firsts}
 use Rattle.plist.specs.Values as value
 use Rattle.plist.specs.Values.{PlainValue, Entry, items_from, entries_from}
-
-abbrev pub is_named : List ℕ → Tree → Bool
-is_named name tree = bytes_eq (name_of tree) name
 
 -- the form of the value that an element of this name is
 abbrev pub form_of : List ℕ → Form

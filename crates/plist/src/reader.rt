@@ -49,7 +49,7 @@ fn own_text(alloc: Global, element: &Element) -> Result<Name, Stop>
 fn read_key(alloc: Global, element: &Element) -> Result<Name, Stop>
     ensures { Gives (λ key. key) result (rules.key_of (plain element.now)) }
 {
-    if element.name() == "key" {
+    if element.is_named("key") {
         own_text(alloc, element)
     } else {
         Err(fault(alloc, element))
@@ -186,7 +186,7 @@ fn read_only(alloc: Global, list: &Element, elements: &[Element]) -> Result<Valu
 fn read_list(alloc: Global, tree: &Element) -> Result<Value, Stop>
     ensures { Gives plain_value result (value_of (plain tree.now)) }
 {
-    if tree.name() == "plist" {
+    if tree.is_named("plist") {
         read_only(alloc, tree, tree.children())
     } else {
         Err(fault(alloc, tree))

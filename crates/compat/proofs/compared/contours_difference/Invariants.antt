@@ -1,4 +1,4 @@
-use Rattle.std.proofs.Common.{◌≡◌, length, drop}
+use Rattle.std.proofs.Common.{◌≡◌, drop}
 use Rattle.compat.specs.Differences.{contours_difference}
 use Rattle.compat.proofs.compared.contours_difference.Given as goal
 

@@ -1,6 +1,6 @@
 use Rattle.std.proofs.Common.{◌≡◌, false, arith}
 use Rattle.std.proofs.lemmas.Grind.{common_steps}
-use Rattle.compat.specs.Searches.{is_marked, IsMarking}
+use Rattle.compat.specs.Searches.{is_marked}
 use Rattle.compat.proofs.Marking.{mark_new}
 use Rattle.compat.proofs.cycle.mark.Goals as goal
 

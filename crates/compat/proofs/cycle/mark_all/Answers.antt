@@ -1,6 +1,5 @@
 use Rattle.std.proofs.Common.{◌≡◌, true, ◌<◌, length, arith, take}
-use Rattle.std.specs.Prelude.{Contains}
-use Rattle.std.proofs.lemmas.List.Elements.{Contains-get_or, All-more, All-nil}
+use Rattle.std.proofs.lemmas.List.Elements.{Contains-get_or, All-more}
 use Rattle.compat.specs.Searches.{is_marked}
 use Rattle.compat.proofs.Marking.{more_markings, all_more, no_markings}
 use Rattle.compat.proofs.cycle.mark_all.Goals as goal

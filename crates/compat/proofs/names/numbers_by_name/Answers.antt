@@ -1,6 +1,5 @@
-use Rattle.std.proofs.Common.{◌≡◌, ◌<◌, ◌+◌, ◌-◌, length, arith}
+use Rattle.std.proofs.Common.{◌<◌, ◌-◌, length, arith}
 use Rattle.std.proofs.lemmas.Map.Text.{hash_map_updates_str}
-use Rattle.std.proofs.lemmas.Grind.{common_steps}
 use Rattle.compat.specs.Names.{number_in}
 use Rattle.compat.proofs.Named.{named_more}
 use Rattle.compat.proofs.names.numbers_by_name.Goals as goal

@@ -1,4 +1,4 @@
-use Rattle.std.proofs.Common.{◌≡◌, ℕ, List, drop, take, map}
+use Rattle.std.proofs.Common.{◌≡◌, drop, take, map}
 use Rattle.compat.specs.Names.{number_of, base_numbers, dangling_from, first_dangling}
 use Rattle.compat.proofs.names.references.Given as goal
 

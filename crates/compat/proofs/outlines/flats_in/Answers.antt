@@ -1,7 +1,6 @@
-use Rattle.std.proofs.Common.{◌≡◌, ◌∙◌, ◌<◌, length, sym, subst, refl, arith, length-set}
+use Rattle.std.proofs.Common.{◌∙◌, ◌<◌, length, sym, subst, refl, arith, length-set}
 use Rattle.std.specs.Prelude.{slice_index}
 use Rattle.compat.specs.References.{bases_at, IsOrder}
-use Rattle.compat.specs.Names.{references}
 use Rattle.compat.specs.Flats.{IsJoined, HasBases, IsKept}
 use Rattle.std.specs.Prelude.{All}
 use Rattle.compat.proofs.Made.{made_more, bases_kept, all_kept, same_size}

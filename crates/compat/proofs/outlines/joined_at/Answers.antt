@@ -1,5 +1,4 @@
-use Rattle.std.proofs.Common.{◌≡◌, subst}
-use Rattle.compat.specs.References.{bases_at}
+use Rattle.std.proofs.Common.{subst}
 use Rattle.compat.specs.Flats.{HasBases}
 use Rattle.compat.proofs.Made.{movable_at, one_each_at, known_at, read_references, joined_is}
 use Rattle.compat.proofs.outlines.joined_at.Goals as goal

@@ -1,7 +1,6 @@
-use Rattle.std.proofs.Common.{◌≡◌, ◌∙◌, ap, subst, sym, None, Some}
+use Rattle.std.proofs.Common.{◌∙◌, ap, subst, sym}
 use Rattle.std.specs.Prelude.{All}
 use Rattle.compat.specs.References.{IsClosed, IsOrder, IsFirstOnCycle, HasNoCycle}
-use Rattle.compat.specs.Names.{references}
 use Rattle.compat.specs.Flattened.{cycle}
 use Rattle.compat.specs.Flats.{IsCounted, fault_from}
 use Rattle.compat.proofs.Made.{closed_references}

@@ -1,6 +1,5 @@
-use Rattle.std.proofs.Common.{◌≡◌, ◌∷◌, [], ap, length, arith, sym}
+use Rattle.std.proofs.Common.{◌≡◌, ◌∷◌, ap, length, arith}
 use Rattle.std.specs.Vec.Iter.{into_iter_items}
-use Rattle.std.proofs.lemmas.Grind.{common_steps}
 use Rattle.compat.proofs.Faults.{outlines_more, first_few}
 use Rattle.compat.proofs.outlines.outlines_of.Goals as goal
 

@@ -1,6 +1,6 @@
 use Rattle.std.proofs.Common.{◌≡◌, ◌++◌, map, filter, codes, drop, option_map, option_to_list}
 use Rattle.markup.specs.Plain.{plain}
-use Rattle.glif.specs.Attributes.{is_named}
+use Rattle.markup_rules.specs.Tree.{is_named}
 use Rattle.glif.specs.Contours.{is_passed_over}
 use Rattle.glif.proofs.contour.is_passed_over.Given as goal
 

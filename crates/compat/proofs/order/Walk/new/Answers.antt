@@ -1,4 +1,4 @@
-use Rattle.std.proofs.Common.{◌≡◌, arith, length, map, take}
+use Rattle.std.proofs.Common.{◌≡◌, arith, map}
 use Rattle.std.proofs.lemmas.Grind.{common_steps}
 use Rattle.compat.proofs.Steps.{fresh, begins_with}
 use Rattle.compat.proofs.order.Walk.new.Goals as goal

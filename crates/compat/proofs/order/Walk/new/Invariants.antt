@@ -1,6 +1,5 @@
 use Rattle.std.proofs.Common.{◌≡◌, length, take, map}
 use Rattle.compat.specs.declared.order.Mark.TheVariants.{New}
-use Rattle.compat.specs.declared.order.Node.{Node}
 use Rattle.compat.proofs.order.Walk.new.Given as goal
 
 abbrev pub invariant-loop-bases : goal.invariant-loop-bases
