@@ -2,7 +2,7 @@ ghost use Rattle.std.specs.Prelude.{◌≡◌, List, [], ◌∷◌, ◌++◌, On
 ghost use Rattle.std.specs.Int.{w16, w32, w64, cast_unsigned, to_be_bytes};
 
 use byteorder::{BigEndian, ByteOrder};
-use outside::NoMemory;
+use basics::NoMemory;
 
 /// Appends an 8-bit field. Where memory runs out, `out` is as before.
 pub fn put_u8(out: &mut Vec<u8>, value: u8) -> Result<(), NoMemory>

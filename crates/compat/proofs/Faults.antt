@@ -7,8 +7,8 @@ use Rattle.std.proofs.lemmas.Bool.{le-leb, lt-leb}
 use Rattle.std.proofs.lemmas.Option.{slice_get-get_or, slice_get_within, same_Some}
 use Rattle.std.proofs.lemmas.List.{get_or_default, drop_more}
 use Rattle.std.proofs.lemmas.List.Elements.{All-nil, All-cons, All-from_get_or, All-head, All-tail, All-contains}
-use Rattle.outside.specs.declared.fault.Kind.{Kind}
-use Rattle.outside.specs.declared.fault.Kind.TheVariants.{CoordinateRange, TooManyPoints}
+use Rattle.basics.specs.declared.kinds.Kind.{Kind}
+use Rattle.basics.specs.declared.kinds.Kind.TheVariants.{CoordinateRange, TooManyPoints}
 use Rattle.glif.specs.declared.shape.Point.{Point}
 use Rattle.glif.specs.declared.shape.Outline.{Outline}
 use Rattle.glif.specs.declared.shape.Drawing.{Drawing}

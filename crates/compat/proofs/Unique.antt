@@ -4,8 +4,8 @@ use Rattle.std.specs.Prelude.{slice_get}
 use Rattle.std.specs.List.{AllZip}
 use Rattle.std.proofs.lemmas.Bool.{cases_order}
 use Rattle.std.proofs.lemmas.Option.{same_Some, slice_get_within}
-use Rattle.outside.specs.declared.fault.Kind.{Kind}
-use Rattle.outside.specs.declared.fault.Kind.TheVariants.{ComponentCycle}
+use Rattle.basics.specs.declared.kinds.Kind.{Kind}
+use Rattle.basics.specs.declared.kinds.Kind.TheVariants.{ComponentCycle}
 use Rattle.glif.specs.declared.shape.Point.{Point}
 use Rattle.glif.specs.declared.shape.Outline.{Outline}
 use Rattle.glif.specs.declared.shape.Component.{Component}

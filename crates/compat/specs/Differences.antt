@@ -5,7 +5,7 @@ use Rattle.std.proofs.Math.Bool.{beq}
 use Rattle.std.specs.Option.{option_or}
 use Rattle.std.specs.List.{common_prefix_len}
 use Rattle.std.specs.Cmp.Lexicographic.{pointwise}
-use Rattle.outside.specs.declared.fault.Kind.TheVariants.{ComponentShape, ContourCount, PointCount, PointKind}
+use Rattle.basics.specs.declared.kinds.Kind.TheVariants.{ComponentShape, ContourCount, PointCount, PointKind}
 use Rattle.glif.specs.declared.shape.Point.{Point}
 use Rattle.glif.specs.declared.shape.Outline.{Outline}
 use Rattle.glif.specs.declared.shape.Component.{Component}

@@ -9,8 +9,8 @@ use Rattle.compat.specs.Flattened.{IsFlattened, shown_count, moved_contours, coo
 use Rattle.compat.specs.declared.refusal.Refusal.{Refusal}
 use Rattle.compat.specs.References.{bases_at}
 use Rattle.std.specs.Option.{option_or, option_map}
-use Rattle.outside.specs.declared.fault.Kind.{Kind}
-use Rattle.outside.specs.declared.fault.Kind.TheVariants.{CoordinateRange, TooManyPoints}
+use Rattle.basics.specs.declared.kinds.Kind.{Kind}
+use Rattle.basics.specs.declared.kinds.Kind.TheVariants.{CoordinateRange, TooManyPoints}
 use Rattle.compat.specs.declared.flat.Flat.{Flat}
 use Rattle.compat.specs.declared.flat.Flat.TheVariants.{Unknown, Few, Many}
 

@@ -3,11 +3,11 @@
 use Rattle.std.specs.Prelude.{◌≡◌, ℕ, ◌<◌, ◌≤◌, ℤ, pos, All, ◌+ℤ◌, List, [], ◌∷◌, ◌++◌, length, map, min, sum_by, Option, Some, None, if◌then◌else◌, nat_le, slice_get}
 use Rattle.std.specs.Option.{option_map}
 use Rattle.std.specs.List.{AllZip}
-use Rattle.outside.specs.declared.fault.Spot.{Spot}
-use Rattle.outside.specs.declared.fault.Stop.{Stop}
-use Rattle.outside.specs.declared.fault.Stop.TheVariants.{NoMemory, At}
-use Rattle.outside.specs.declared.fault.Kind.{Kind}
-use Rattle.outside.specs.declared.fault.Kind.TheVariants.{CoordinateRange, TooManyPoints, ComponentCycle}
+use Rattle.basics.specs.declared.fault.Spot.{Spot}
+use Rattle.basics.specs.declared.fault.Stop.{Stop}
+use Rattle.basics.specs.declared.fault.Stop.TheVariants.{NoMemory, At}
+use Rattle.basics.specs.declared.kinds.Kind.{Kind}
+use Rattle.basics.specs.declared.kinds.Kind.TheVariants.{CoordinateRange, TooManyPoints, ComponentCycle}
 use Rattle.glif.specs.Limits.{IsOffsetWithin, IsWithinLimits}
 use Rattle.glif.specs.FirstOutside.{first_given, point_outside}
 use Rattle.glif.specs.declared.shape.Point.{Point}

@@ -5,7 +5,7 @@ use Rattle.std.specs.List.{position_from, filter_map}
 use Rattle.std.specs.Str.{bytes_eq}
 use Rattle.std.specs.HashMap.{HashMap, get_by}
 use Rattle.std.specs.Borrow.{Bor}
-use Rattle.outside.specs.declared.fault.Kind.TheVariants.{DanglingComponent}
+use Rattle.basics.specs.declared.kinds.Kind.TheVariants.{DanglingComponent}
 use Rattle.glif.specs.declared.shape.Component.{Component}
 use Rattle.glif.specs.declared.shape.Drawing.{Drawing}
 use Rattle.compat.specs.declared.refusal.Refusal.{Refusal}

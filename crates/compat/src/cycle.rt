@@ -4,7 +4,7 @@ ghost use Rattle.std.specs.Prelude.{◌≡◌, ℕ, ◌<◌, ◌↔◌, true, le
 ghost use Rattle.compat.specs.References.{bases_at, Reaches, HasCycle, IsClosed, IsFirstOnCycle};
 ghost use Rattle.compat.specs.Searches.{is_marked, IsMarking, AreMarkings, IsSearch};
 
-use outside::{NoMemory, Seq};
+use basics::{NoMemory, Seq};
 use std::alloc::Global;
 
 /// Marks `base`, and lets it wait if it wasn't marked.

@@ -5,7 +5,7 @@ ghost use Rattle.compat.specs.Flattened.{moved, moved_contours, shown_count};
 ghost use Rattle.compat.specs.Flats.{CanMove, flat_at, flat_contours, flat_count, joint_count, placed_contours, AreMovable, joined_flat, IsFew};
 
 use glif::{Component, Drawing, Point};
-use outside::{NoMemory, Seq};
+use basics::{NoMemory, Seq};
 use std::alloc::Global;
 
 /// The most points of a glyph.

@@ -5,7 +5,7 @@ ghost use Rattle.compat.specs.Names.{number_in, number_of, base_numbers, referen
 
 use crate::refusal::Refusal;
 use glif::Drawing;
-use outside::{Kind, Name, NoMemory, Seq};
+use basics::{Kind, Name, NoMemory, Seq};
 use std::alloc::Global;
 use std::collections::HashMap;
 

@@ -6,7 +6,7 @@ ghost use Rattle.compat.specs.References.{bases_at, HasCycle, IsClosed, IsOrder}
 ghost use Rattle.compat.specs.Walks.{IsWalk, StaySeen, AreSeen, mark_at, left_at, steps_left, IsNextBase, IsStep, IsVisit};
 ghost use Rattle.compat.specs.declared.order.Mark.TheVariants.{New, Open, Done};
 
-use outside::{NoMemory, Seq};
+use basics::{NoMemory, Seq};
 use std::alloc::Global;
 
 /// How far the walk is with one thing.

@@ -13,7 +13,7 @@ use crate::names::references;
 use crate::order::order_of;
 use crate::refusal::Refusal;
 use glif::{Drawing, Outline, Point, coordinate_outside};
-use outside::{Kind, NoMemory, Seq, Spot, Stop};
+use basics::{Kind, NoMemory, Seq, Spot, Stop};
 use std::alloc::Global;
 
 /// As many places as there are drawings, with nothing made yet.

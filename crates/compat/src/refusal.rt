@@ -1,4 +1,4 @@
-use outside::Kind;
+use basics::Kind;
 
 /// A fault of a list of drawings.
 #[derive(Clone, Copy)]

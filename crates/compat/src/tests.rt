@@ -6,7 +6,7 @@ ghost use Rattle.glif.specs.Limits.{IsOffsetWithin};
 
 use crate::{Difference, compare, flatten, same_bases};
 use glif::{Component, Drawing, Outline, Point, within};
-use outside::{Kind, Name, NoMemory, Seq, Stop};
+use basics::{Kind, Name, NoMemory, Seq, Stop};
 use std::alloc::{AllocError, Global};
 use std::fmt::Write;
 use std::test::Fail;

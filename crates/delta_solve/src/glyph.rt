@@ -14,7 +14,7 @@ use crate::scalars::ScalarTable;
 use crate::sums::{Wide, advance_dot, left_of, point_dot};
 use fixpoint::Pair;
 use glif::{Outline, Point};
-use outside::{NoMemory, Seq};
+use basics::{NoMemory, Seq};
 use std::alloc::Global;
 
 // All points of an outline, contour by contour.

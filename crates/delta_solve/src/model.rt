@@ -1,7 +1,7 @@
 ghost use Rattle.std.specs.Prelude.{◌≡◌};
 
 use fixpoint::Pair;
-use outside::{NoMemory, Seq};
+use basics::{NoMemory, Seq};
 use std::alloc::{AllocError, AllocFailed};
 
 /// Why deltas can't be had.

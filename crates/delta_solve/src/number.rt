@@ -9,7 +9,7 @@ ghost use Rattle.delta_solve.specs.Tables.{IsScalar, IsTable};
 use crate::model::DeltaStop;
 use crate::scalars::ScalarTable;
 use crate::sums::{dot, left_of};
-use outside::Seq;
+use basics::Seq;
 use std::alloc::Global;
 
 /// The delta of a master, where it fits 16 bits.

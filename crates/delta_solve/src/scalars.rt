@@ -5,7 +5,7 @@ ghost use Rattle.delta_solve.specs.Deltas.{rows_of, scalars_at};
 ghost use Rattle.delta_solve.specs.Tables.{IsRow, IsScalar, IsTable};
 
 use arrayvec::ArrayVec;
-use outside::{NoMemory, Seq};
+use basics::{NoMemory, Seq};
 use region_support::{Location, Support};
 use std::alloc::Global;
 use std::marker::Model;

@@ -7,7 +7,7 @@ use crate::{DeltaStop, GlyphModel, advance_at, model_at, solve, solve_glyph, tab
 use arrayvec::ArrayVec;
 use fixpoint::{Fix, Pair};
 use glif::{Outline, Point};
-use outside::{NoMemory, Seq};
+use basics::{NoMemory, Seq};
 use region_support::{Location, Support};
 use std::alloc::Global;
 use variation_rules::Triple;

@@ -6,7 +6,7 @@ ghost use Rattle.delta_solve.specs.GlyphModels.{IsTupleWithin, delta_advance, de
 use crate::model::GlyphModel;
 use crate::scalars::scalars_at;
 use crate::sums::{advance_dot, point_dot};
-use outside::Seq;
+use basics::Seq;
 use region_support::{Location, Support};
 
 /// Where the model has a point at a location, x and y, in 65536ths of a font unit: the sum over the masters of the

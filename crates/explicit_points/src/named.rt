@@ -6,7 +6,7 @@ ghost use Rattle.explicit_points.specs.ExplicitPoints.{IsGlyph, IsOutline, AreEx
 
 use fixpoint::Pair;
 use iup_optimal::least;
-use outside::{NoMemory, Seq};
+use basics::{NoMemory, Seq};
 use std::alloc::Global;
 
 /// The points that a tuple variation of a glyph names: on each contour the least set of points from which all

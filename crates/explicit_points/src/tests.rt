@@ -4,7 +4,7 @@ ghost use Rattle.explicit_points.specs.ExplicitPoints.{IsOutline};
 
 use crate::explicit_points;
 use fixpoint::Pair;
-use outside::{NoMemory, Seq};
+use basics::{NoMemory, Seq};
 use std::alloc::Global;
 
 // The deltas in x of four points, which don't move in y.

@@ -6,38 +6,14 @@ use Rattle.std.specs.Char.{is_ascii_digit}
 use Rattle.std.proofs.lemmas.Bool.{and_parts, ltb-true, lt-ltb, eqb-true, cond-true}
 use Rattle.std.proofs.lemmas.Bool.Decides.{nat_tests}
 use Rattle.std.proofs.lemmas.Option.{cond_some, some_pair_parts}
-use Rattle.fixpoint.specs.DecimalText.{Decimal, Sign, no_sign, plus, minus, sign_text, is_minus, fraction_text, is_blank, Spells, ◌>>=◌, run_at, after_run, digits_at, decimals_at, unsigned_of, signed_of, decimal_of}
+use Rattle.fixpoint.specs.DecimalText.{Decimal, Sign, no_sign, plus, minus, sign_text, is_minus, fraction_text, Spells, digits_at, decimals_at, unsigned_of, signed_of, decimal_of}
+use Rattle.basics.specs.Bytes.{is_blank, run_at, after_run}
+use Rattle.basics.specs.Optional.{◌>>=◌}
+use Rattle.basics.specs.Bytes.{stops}
+use Rattle.basics.proofs.Runs.{run_at_again, after_run_again, run_whole, run_all}
+use Rattle.basics.proofs.Optional.{bind_some}
 
 -- ---- what is written so is read
-
--- no byte of the class stands at the front
-abbrev stops : (ℕ → Bool) → List ℕ → Bool
-stops class [] = true
-stops class (b ∷ bytes) = not (class b)
-
-not_true : (b : Bool) → not b ≡ true → b ≡ false
-not_true true e = absurd cc
-not_true false e = refl
-
-run_at_stop : (class : ℕ → Bool) (rest : List ℕ) → stops class rest ≡ true → run_at class rest ≡ []
-run_at_stop class [] stop = refl
-run_at_stop class (b ∷ rest) stop = rw (not_true (class b) stop) refl
-
-after_run_stop : (class : ℕ → Bool) (rest : List ℕ) → stops class rest ≡ true → after_run class rest ≡ rest
-after_run_stop class [] stop = refl
-after_run_stop class (b ∷ rest) stop = rw (not_true (class b) stop) refl
-
-run_at_again : (class : ℕ → Bool) (bytes rest : List ℕ) → list_all class bytes ≡ true → stops class rest ≡ true → run_at class (bytes ++ rest) ≡ bytes
-run_at_again class [] rest all stop = run_at_stop class rest stop
-run_at_again class (b ∷ bytes) rest all stop =
-    let parts = and_parts (class b) (list_all class bytes) all in
-    cond-true (class b) (b ∷ run_at class (bytes ++ rest)) [] parts.0 ∙ ap (λ bs. b ∷ bs) (run_at_again class bytes rest parts.1 stop)
-
-after_run_again : (class : ℕ → Bool) (bytes rest : List ℕ) → list_all class bytes ≡ true → stops class rest ≡ true → after_run class (bytes ++ rest) ≡ rest
-after_run_again class [] rest all stop = after_run_stop class rest stop
-after_run_again class (b ∷ bytes) rest all stop =
-    let parts = and_parts (class b) (list_all class bytes) all in
-    cond-true (class b) (after_run class (bytes ++ rest)) (b ∷ (bytes ++ rest)) parts.0 ∙ after_run_again class bytes rest parts.1 stop
 
 digits_again : (digits rest : List ℕ) → list_all is_ascii_digit digits ≡ true → 1 ≤ length digits → stops is_ascii_digit rest ≡ true → digits_at (digits ++ rest) ≡ Some (digits, rest)
 unfolding digits_at
@@ -121,27 +97,6 @@ decimal_again text decimal spells =
     ap decimal_of spells.spelled ∙ (written_again spells.before spells.sign decimal.whole decimal.decimals spells.after spells.blank_before proper ∙ ap (λ is. Some (number is decimal.whole decimal.decimals)) (sym spells.signed))
 
 -- ---- what is read is written so
-
--- the value of a step that found something
-bind_some : {A B : Type 0} (o : Option A) (f : A → Option B) (y : B) → (o >>= f) ≡ Some y → (x : A) × (o ≡ Some x) × (f x ≡ Some y)
-bind_some (Some x) f y e = (x, refl, e)
-bind_some None f y e = absurd cc
-
-run_cases : (class : ℕ → Bool) (b : ℕ) (bytes : List ℕ) (is : Bool) → bytes ≡ run_at class bytes ++ after_run class bytes → b ∷ bytes ≡ cond is (b ∷ run_at class bytes) [] ++ cond is (after_run class bytes) (b ∷ bytes)
-run_cases class b bytes true later = ap (λ bs. b ∷ bs) later
-run_cases class b bytes false later = refl
-
-run_whole : (class : ℕ → Bool) (bytes : List ℕ) → bytes ≡ run_at class bytes ++ after_run class bytes
-run_whole class [] = refl
-run_whole class (b ∷ bytes) = run_cases class b bytes (class b) (run_whole class bytes)
-
-run_all_cases : (class : ℕ → Bool) (b : ℕ) (bytes : List ℕ) (is : Bool) → class b ≡ is → list_all class (run_at class bytes) ≡ true → list_all class (cond is (b ∷ run_at class bytes) []) ≡ true
-run_all_cases class b bytes true e later = rw (e, later) refl
-run_all_cases class b bytes false e later = refl
-
-run_all : (class : ℕ → Bool) (bytes : List ℕ) → list_all class (run_at class bytes) ≡ true
-run_all class [] = refl
-run_all class (b ∷ bytes) = run_all_cases class b bytes (class b) refl (run_all class bytes)
 
 record TakesDigits (bytes digits rest : List ℕ) : Type 0 where
   some : 1 ≤ length digits

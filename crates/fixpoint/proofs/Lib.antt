@@ -1,4 +1,3 @@
 pub mod DecimalLaws
 mod Numbers
 pub mod RoundingLemmas
-mod Runs

@@ -6,6 +6,8 @@ use Rattle.std.specs.Char.{is_ascii_digit}
 use Rattle.fixpoint.specs.Rounding.{round_up}
 use Rattle.fixpoint.specs.declared.decimal.NumberFault.{NumberFault}
 use Rattle.fixpoint.specs.declared.decimal.NumberFault.TheVariants.{NotNumber, NotWhole, NumberRange}
+use Rattle.basics.specs.Bytes.{is_blank, run_at, after_run}
+use Rattle.basics.specs.Optional.{◌>>=◌}
 
 -- a number as it is written: its digits before the point and behind it, each as a byte
 pub record Decimal : Type 0 where
@@ -35,10 +37,6 @@ abbrev pub fraction_text : List ℕ → List ℕ
 fraction_text [] = []
 fraction_text (d ∷ ds) = codes "." ++ (d ∷ ds)
 
--- a space, tab, line feed or carriage return
-abbrev pub is_blank : ℕ → Bool
-is_blank byte = (byte == 32) || ((byte == 9) || ((byte == 10) || (byte == 13)))
-
 -- the text writes the number, perhaps with blanks on both sides
 pub record Spells (text : List ℕ) (number : Decimal) : Type 0 where
   pub before : List ℕ
@@ -53,26 +51,6 @@ pub record Spells (text : List ℕ) (number : Decimal) : Type 0 where
   pub spelled : text ≡ before ++ (sign_text sign ++ (number.whole ++ (fraction_text number.decimals ++ after)))
 
 -- ---- the same, read from left to right
-
--- nothing, or what the second step makes of the first one's value
-infixl 10 ◌>>=◌
-abbrev pub ◌>>=◌ : {A B : Type 0} → Option A → (A → Option B) → Option B
-(Some x) >>= f = f x
-None >>= f = None
-
--- a call agrees with the reading: it found the same, seen by view, or nothing as well
-abbrev pub Agrees : {X Y : Type 0} → (X → Y) → Option X → Option Y → Type 0
-Agrees view (Some x) reading = reading ≡ Some (view x)
-Agrees view None reading = reading ≡ None
-
--- the bytes of one class at the front, and what follows them
-abbrev pub run_at : (ℕ → Bool) → List ℕ → List ℕ
-run_at class [] = []
-run_at class (b ∷ bytes) = if class b then b ∷ run_at class bytes else []
-
-abbrev pub after_run : (ℕ → Bool) → List ℕ → List ℕ
-after_run class [] = []
-after_run class (b ∷ bytes) = if class b then after_run class bytes else b ∷ bytes
 
 -- one digit or more, and what follows
 unfoldable pub digits_at : List ℕ → Option (List ℕ × List ℕ)

@@ -3,9 +3,12 @@ ghost use Rattle.std.specs.Prelude.{take, slice_index_or, ◌≡◌, ◌↔◌, 
 ghost use Rattle.std.specs.List.{list_all};
 ghost use Rattle.std.specs.Char.{is_ascii_digit};
 ghost use Rattle.fixpoint.specs.PartsView.{parts_view};
-ghost use Rattle.fixpoint.specs.DecimalText.{Agrees, Decimal, Spells, after_run, decimal_of, decimals_at, digits_at, filled, fix16_of, scaled, is_blank, is_zero, number_after, run_at, signed_of, unsigned_of, whole_of, with_sign};
+ghost use Rattle.fixpoint.specs.DecimalText.{Decimal, Spells, decimal_of, decimals_at, digits_at, filled, fix16_of, scaled, is_zero, number_after, signed_of, unsigned_of, whole_of, with_sign};
+ghost use Rattle.basics.specs.Optional.{Agrees};
+ghost use Rattle.basics.specs.Bytes.{after_run, is_blank, run_at};
 
 use crate::number::Fix;
+use basics::{after_blanks, are_blanks};
 
 /// Why a text is no number of the kind that was asked for.
 #[derive(Clone, Copy, Debug, PartialEq, Eq)]
@@ -38,32 +41,6 @@ const ONE: u128 = 1_000_000_000_000_000_000;
 /// The greatest number without its sign.
 const GREATEST: u128 = 2_147_483_647;
 
-/// Whether the byte is a space, tab, line feed or carriage return.
-fn is_blank(byte: u8) -> bool
-    ensures { result ≡ is_blank byte }
-{
-    byte == b' ' || byte == b'\t' || byte == b'\n' || byte == b'\r'
-}
-
-/// The text without the blanks at its front.
-fn after_blanks(text: &[u8]) -> &[u8]
-    ensures { result.now ≡ after_run is_blank text.now }
-{
-    for (place, byte) in text.iter().enumerate() {
-        if !is_blank(*byte) {
-            return &text[place..];
-        }
-    }
-    &[]
-}
-
-/// Whether there are blanks alone.
-fn are_blanks(text: &[u8]) -> bool
-    ensures { result ≡ list_all is_blank text.now }
-{
-    text.iter().all(|byte| is_blank(*byte))
-}
-
 /// How many digits stand at the front.
 fn digit_count(text: &[u8]) -> usize
     ensures count { result ≡ length (run_at is_ascii_digit text.now) }
@@ -78,7 +55,7 @@ fn digit_count(text: &[u8]) -> usize
 }
 
 /// The digits at the front, one at least, and what follows them.
-#[tactic(auto, using(crate::proofs::Runs::front_of_run, crate::proofs::Runs::rest_of_run), unfolding(crate::specs::DecimalText::digits_at))]
+#[tactic(auto, using(basics::proofs::Runs::front_of_run, basics::proofs::Runs::rest_of_run), unfolding(crate::specs::DecimalText::digits_at))]
 fn digits_at(text: &[u8]) -> Option<(&[u8], &[u8])>
     ensures { Agrees (λ found. (found.0.now, found.1.now)) result (digits_at text.now) }
 {

@@ -6,8 +6,8 @@ use Rattle.std.proofs.lemmas.List.Elements.{All-head, All-tail}
 use Rattle.markup_rules.specs.Tree.{Tree, node, no_trees, trees_of, list_of, children_of}
 use Rattle.markup_rules.specs.Syntax.{tag_then, end_tag_then, inside_then, own_text, children_from}
 use Rattle.markup_rules.specs.Outcome.{outcome}
-use Rattle.outside.specs.Reading.{◌>>=◌, in_turn}
-use Rattle.outside.specs.declared.fault.Spot.{Spot}
+use Rattle.basics.specs.Reading.{◌>>=◌, in_turn}
+use Rattle.basics.specs.declared.fault.Spot.{Spot}
 use Rattle.glif.specs.declared.shape.Drawing.{Drawing}
 use Rattle.glif.specs.declared.shape.Point.{Point}
 use Rattle.glif.specs.declared.outline.Shapes.{Shapes}

@@ -7,7 +7,7 @@ use Rattle.std.proofs.lemmas.List.Elements.{All-head, All-tail}
 use Rattle.fixpoint.specs.declared.decimal.NumberFault.{NumberFault}
 use Rattle.markup_rules.specs.Tree.{Tree, node, no_trees, attribute_of, children_of, is_named}
 use Rattle.markup_rules.specs.Syntax.{tag_then, children_from}
-use Rattle.outside.specs.Reading.{◌>>=◌, each}
+use Rattle.basics.specs.Reading.{◌>>=◌, each}
 use Rattle.glif.specs.declared.shape.Point.{Point}
 use Rattle.glif.specs.Attributes.{number_or_fault, needed, ranged, whole, coordinate}
 use Rattle.glif.specs.Contours.{point_of, points_of, type_of, is_move, is_on, ends_on, line_after_off, is_passed_over, closed, contour_of}

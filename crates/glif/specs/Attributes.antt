@@ -5,10 +5,10 @@ use Rattle.fixpoint.specs.DecimalText.{whole_of}
 use Rattle.fixpoint.specs.declared.decimal.NumberFault.{NumberFault}
 use Rattle.fixpoint.specs.declared.decimal.NumberFault.TheVariants as number
 use Rattle.markup_rules.specs.Tree.{Tree, at_of, attribute_of}
-use Rattle.outside.specs.Reading.{◌>>=◌, spot_of}
-use Rattle.outside.specs.declared.fault.Kind.{Kind}
-use Rattle.outside.specs.declared.fault.Kind.TheVariants.{NotNumber, NotWhole, NumberRange, CoordinateRange, MissingAttribute}
-use Rattle.outside.specs.declared.fault.Spot.{Spot}
+use Rattle.basics.specs.Reading.{◌>>=◌, spot_of}
+use Rattle.basics.specs.declared.kinds.Kind.{Kind}
+use Rattle.basics.specs.declared.kinds.Kind.TheVariants.{NotNumber, NotWhole, NumberRange, CoordinateRange, MissingAttribute}
+use Rattle.basics.specs.declared.fault.Spot.{Spot}
 
 -- a fault of the element, and one of an attribute of it
 abbrev pub fault : {A : Type 0} → Kind → Tree → Result A Spot

@@ -2,9 +2,9 @@
 use Rattle.std.specs.Prelude.{ℕ, ℤ, pos, negsuc, int_le, ◌&&◌, List, codes, Option, Some, None, Result, Ok, if◌then◌else◌}
 use Rattle.fixpoint.specs.DecimalText.{fix16_of}
 use Rattle.markup_rules.specs.Tree.{Tree, attribute_of}
-use Rattle.outside.specs.Reading.{◌>>=◌}
-use Rattle.outside.specs.declared.fault.Kind.TheVariants.{ScaledComponent}
-use Rattle.outside.specs.declared.fault.Spot.{Spot}
+use Rattle.basics.specs.Reading.{◌>>=◌}
+use Rattle.basics.specs.declared.kinds.Kind.TheVariants.{ScaledComponent}
+use Rattle.basics.specs.declared.fault.Spot.{Spot}
 use Rattle.glif.specs.declared.shape.Component.{Component}
 use Rattle.glif.specs.Attributes.{fault, needed, number_or_fault, optional}
 

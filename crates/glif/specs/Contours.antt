@@ -2,9 +2,9 @@
 use Rattle.std.specs.Prelude.{ℕ, ◌-◌, pos, Bool, true, false, not, ◌&&◌, List, [], ◌∷◌, length, codes, filter, Option, Some, None, Result, Ok, Err, nat_le, slice_get, if◌then◌else◌}
 use Rattle.std.specs.Str.{bytes_eq}
 use Rattle.markup_rules.specs.Tree.{Tree, at_of, attribute_of, children_of, is_named}
-use Rattle.outside.specs.Reading.{◌>>=◌, each, spot_of}
-use Rattle.outside.specs.declared.fault.Kind.TheVariants.{NotGlif, Curve, OpenContour, LineAfterOff, TooManyPoints}
-use Rattle.outside.specs.declared.fault.Spot.{Spot}
+use Rattle.basics.specs.Reading.{◌>>=◌, each, spot_of}
+use Rattle.basics.specs.declared.kinds.Kind.TheVariants.{NotGlif, Curve, OpenContour, LineAfterOff, TooManyPoints}
+use Rattle.basics.specs.declared.fault.Spot.{Spot}
 use Rattle.glif.specs.declared.shape.Point.{Point}
 use Rattle.glif.specs.declared.contour.PointType.{PointType}
 use Rattle.glif.specs.declared.contour.PointType.TheVariants.{Off, Line, Quadratic, Cubic, Move, Unknown}

@@ -7,9 +7,9 @@ use Rattle.std.specs.Str.Parse.{digits_value}
 use Rattle.fixpoint.specs.DecimalText.{whole_of}
 use Rattle.fixpoint.specs.declared.decimal.NumberFault.{NumberFault}
 use Rattle.markup_rules.specs.Tree.{Tree, at_of, attribute_of, children_of, is_named}
-use Rattle.outside.specs.Reading.{◌>>=◌, in_turn, spot_of}
-use Rattle.outside.specs.declared.fault.Kind.TheVariants.{BadCode, FormatVersion, NotGlif, TooManyPoints}
-use Rattle.outside.specs.declared.fault.Spot.{Spot}
+use Rattle.basics.specs.Reading.{◌>>=◌, in_turn, spot_of}
+use Rattle.basics.specs.declared.kinds.Kind.TheVariants.{BadCode, FormatVersion, NotGlif, TooManyPoints}
+use Rattle.basics.specs.declared.fault.Spot.{Spot}
 use Rattle.glif.specs.declared.shape.Component.{Component}
 use Rattle.glif.specs.declared.shape.Drawing.{Drawing}
 use Rattle.glif.specs.declared.shape.Point.{Point}

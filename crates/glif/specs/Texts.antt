@@ -1,8 +1,8 @@
 -- The drawing of a source text: that of its tree, or the first fault of the text or of the tree.
 use Rattle.std.specs.Prelude.{ℕ, List, Result}
 use Rattle.markup_rules.specs.Outcome.{outcome}
-use Rattle.outside.specs.Reading.{◌>>=◌}
-use Rattle.outside.specs.declared.fault.Spot.{Spot}
+use Rattle.basics.specs.Reading.{◌>>=◌}
+use Rattle.basics.specs.declared.fault.Spot.{Spot}
 use Rattle.glif.specs.declared.shape.Drawing.{Drawing}
 use Rattle.glif.specs.Glyphs.{drawing_of}
 

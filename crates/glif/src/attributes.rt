@@ -1,5 +1,5 @@
 ghost use Rattle.std.specs.Prelude.{◌≡◌, [], pos};
-ghost use Rattle.outside.specs.Reading.{Gives, IsStop, spot_of};
+ghost use Rattle.basics.specs.Reading.{Gives, IsStop, spot_of};
 ghost use Rattle.markup_rules.specs.Tree.{at_of};
 ghost use Rattle.markup.specs.Plain.{plain};
 ghost use Rattle.glif.specs.Attributes.{coordinate, needed, number_kind, number_or_fault, optional, ranged, whole};
@@ -7,7 +7,7 @@ ghost use Rattle.glif.specs.Attributes.{coordinate, needed, number_kind, number_
 use crate::limits::{GREATEST, LEAST};
 use fixpoint::{NumberFault, parse_whole};
 use markup::Element;
-use outside::{Kind, Stop, stop_at};
+use basics::{Kind, Stop, stop_at};
 use std::alloc::Global;
 
 /// The stop at a fault of the element.

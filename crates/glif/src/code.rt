@@ -2,13 +2,13 @@ ghost use Rattle.std.specs.Prelude.{◌≡◌, ◌&&◌, [], if◌then◌else◌
 ghost use Rattle.std.specs.Char.{is_ascii_hexdigit};
 ghost use Rattle.std.specs.List.{list_all};
 ghost use Rattle.std.specs.Str.Parse.{digits_value};
-ghost use Rattle.outside.specs.Reading.{Gives};
+ghost use Rattle.basics.specs.Reading.{Gives};
 ghost use Rattle.markup.specs.Plain.{plain};
 ghost use Rattle.glif.specs.Glyphs.{code_of, is_code, is_hexadecimal, with_code};
 
 use crate::attributes::fault;
 use markup::Element;
-use outside::{Kind, NoMemory, Seq, Stop};
+use basics::{Kind, NoMemory, Seq, Stop};
 use std::alloc::Global;
 use std::collections::BTreeSet;
 use std::marker::Model;

@@ -1,5 +1,5 @@
 ghost use Rattle.std.specs.Prelude.{◌≡◌};
-ghost use Rattle.outside.specs.Reading.{Gives};
+ghost use Rattle.basics.specs.Reading.{Gives};
 ghost use Rattle.markup.specs.Plain.{plain};
 ghost use Rattle.glif.specs.Components.{component_of, matrix, scale, unscaled};
 
@@ -8,7 +8,7 @@ use crate::limits::LEAST;
 use crate::shape::Component;
 use fixpoint::{Fix, parse_fix16};
 use markup::Element;
-use outside::{Kind, Name, Stop};
+use basics::{Kind, Name, Stop};
 use std::alloc::Global;
 
 /// 1 as a raw number with 16 binary places.

@@ -1,5 +1,5 @@
 ghost use Rattle.std.specs.Prelude.{◌≡◌, map, filter, codes};
-ghost use Rattle.outside.specs.Reading.{Gives};
+ghost use Rattle.basics.specs.Reading.{Gives};
 ghost use Rattle.markup.specs.Plain.{plain};
 ghost use Rattle.markup_rules.specs.Tree.{is_named};
 ghost use Rattle.glif.specs.Contours.{closed, contour_of, ends_on, is_line, is_move, is_passed_over, line_after_off, lined, on_by, point_of, points_of, starts_with_move, type_of};
@@ -8,7 +8,7 @@ use crate::attributes::{coordinate, fault};
 use crate::limits::CONTOUR_POINTS;
 use crate::shape::Point;
 use markup::Element;
-use outside::{Kind, Seq, Stop, stop_at};
+use basics::{Kind, Seq, Stop, stop_at};
 use std::alloc::Global;
 
 /// What a point is to its contour, by its attribute `type` (UFO 3, "GLIF", "point").

@@ -1,5 +1,5 @@
 ghost use Rattle.std.specs.Prelude.{◌≡◌, List, ℕ, map, codes, All, IfOk, option_map};
-ghost use Rattle.outside.specs.Reading.{Gives, in_turn};
+ghost use Rattle.basics.specs.Reading.{Gives, in_turn};
 ghost use Rattle.markup_rules.specs.Tree.{attribute_of};
 ghost use Rattle.markup.specs.Plain.{plain};
 ghost use Rattle.glif.specs.Glyphs.{advance_seen, child_of, drawing_of, drawn, format_of, is_version, nothing_seen, outline_seen, version_of};
@@ -12,7 +12,7 @@ use crate::outline::{Shapes, read_outline};
 use crate::shape::{Drawing, Outline};
 use fixpoint::parse_whole;
 use markup::Element;
-use outside::{Kind, Name, Stop, stop_at};
+use basics::{Kind, Name, Stop, stop_at};
 use std::alloc::Global;
 
 /// What the elements of a `glyph` have given so far.

@@ -3,7 +3,7 @@ ghost use Rattle.glif.specs.Limits.{IsWithinLimits};
 ghost use Rattle.glif.specs.FirstOutside.{out_of, first_given, point_outside, contour_outside, point_count, first_outside};
 
 use crate::shape::{Outline, Point};
-use outside::Seq;
+use basics::Seq;
 
 /// The least coordinate, in font units.
 pub(crate) const LEAST: i32 = -16_384;

@@ -1,5 +1,5 @@
 ghost use Rattle.std.specs.Prelude.{◌≡◌};
-ghost use Rattle.outside.specs.Reading.{Gives};
+ghost use Rattle.basics.specs.Reading.{Gives};
 ghost use Rattle.markup.specs.Plain.{plain};
 ghost use Rattle.glif.specs.Glyphs.{few, no_shapes, outline_of, shape_of};
 
@@ -9,7 +9,7 @@ use crate::contour::read_contour;
 use crate::limits::{GLYPH_POINTS, point_count};
 use crate::shape::{Component, Point};
 use markup::Element;
-use outside::{Kind, Seq, Stop, stop_at};
+use basics::{Kind, Seq, Stop, stop_at};
 use std::alloc::Global;
 
 /// What the elements of an `outline` draw, in their order.

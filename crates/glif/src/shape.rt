@@ -1,4 +1,4 @@
-use outside::{Name, Seq};
+use basics::{Name, Seq};
 
 /// A point of a contour, by the element `point` of GLIF (UFO 3, "GLIF", "outline").
 #[derive(Clone, Copy, Debug, PartialEq, Eq)]

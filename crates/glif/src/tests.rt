@@ -1,5 +1,5 @@
 use crate::{Drawing, Outline, Point, coordinate_outside, read, within};
-use outside::{NoMemory, Seq, Spot, Stop};
+use basics::{NoMemory, Seq, Spot, Stop};
 use std::alloc::{AllocError, Global};
 use std::fmt::Write;
 use std::process::Abort;

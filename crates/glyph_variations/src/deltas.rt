@@ -5,7 +5,7 @@ ghost use Rattle.glyph_variations.specs.Variations.{all_deltas, explicit_in, pic
 
 use delta_solve::GlyphTuple;
 use fixpoint::Pair;
-use outside::{NoMemory, Seq};
+use basics::{NoMemory, Seq};
 use std::alloc::Global;
 
 /// No movement.

@@ -9,7 +9,7 @@ use arrayvec::ArrayVec;
 use delta_solve::{GlyphModel, GlyphTuple};
 use fixpoint::{Fix, Pair};
 use gvar_table::Tuple;
-use outside::{NoMemory, Seq};
+use basics::{NoMemory, Seq};
 use region_support::Support;
 use std::alloc::Global;
 use variation_rules::Triple;

@@ -10,7 +10,7 @@ use delta_solve::{GlyphModel, GlyphTuple};
 use explicit_points::explicit_points;
 use fixpoint::Pair;
 use gvar_table::Tuple;
-use outside::{NoMemory, Seq};
+use basics::{NoMemory, Seq};
 use region_support::Support;
 use std::alloc::Global;
 

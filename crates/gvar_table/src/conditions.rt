@@ -8,7 +8,7 @@ ghost use Rattle.gvar_table.specs.Tuples.{AreTuplesOf, IsCoordinate, IsDelta, Is
 
 use crate::Tuple;
 use fixpoint::Pair;
-use outside::Seq;
+use basics::Seq;
 use variation_rules::Triple;
 
 /// Whether a raw number is a coordinate.

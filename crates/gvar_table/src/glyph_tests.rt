@@ -2,7 +2,7 @@ use crate::conditions::are_tuples_of;
 use crate::{Tuple, glyph_data, one_spelling};
 use arrayvec::ArrayVec;
 use fixpoint::{Fix, Pair};
-use outside::{NoMemory, Seq};
+use basics::{NoMemory, Seq};
 use std::alloc::Global;
 use std::test::*;
 use variation_rules::{Triple, TupleVariation, read_tuples};

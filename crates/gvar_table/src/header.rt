@@ -8,7 +8,7 @@ ghost use Rattle.gvar_table.specs.Tuples.{IsRegionAxis};
 
 use be_bytes::{put_i16, put_u16};
 use fixpoint::Fix;
-use outside::NoMemory;
+use basics::NoMemory;
 use variation_rules::Triple;
 
 /// The tupleIndex of an embedded peak and private points.

@@ -8,7 +8,7 @@ ghost use Rattle.gvar_table.specs.Tuples.{ArePointDeltas, IsDelta, variation_of}
 use crate::tuple::Tuple;
 use be_bytes::{put_bytes, put_u8};
 use fixpoint::Pair;
-use outside::NoMemory;
+use basics::NoMemory;
 use packed::{pack_deltas, pack_points};
 use std::alloc::{AllocError, Global};
 

@@ -1,7 +1,7 @@
 use crate::conditions::are_glyphs_of;
 use crate::glyph_tests::{Plain, reads_back, tuples_of};
 use crate::{Tuple, table};
-use outside::{NoMemory, Seq};
+use basics::{NoMemory, Seq};
 use std::alloc::Global;
 use std::test::*;
 

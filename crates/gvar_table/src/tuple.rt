@@ -1,5 +1,5 @@
 use fixpoint::Pair;
-use outside::Seq;
+use basics::Seq;
 use region_support::Support;
 
 /// One tuple variation of a glyph, to be written (OpenType, "gvar" and "Tuple variation store").

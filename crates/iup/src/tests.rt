@@ -4,7 +4,7 @@ ghost use Rattle.iup.specs.Arcs.{IsContour, RisesFrom};
 
 use crate::{arc_holds, infers};
 use fixpoint::Pair;
-use outside::{NoMemory, Seq};
+use basics::{NoMemory, Seq};
 use std::alloc::Global;
 use variation_rules::{TupleVariation, filled};
 

@@ -1,5 +1,5 @@
 use crate::row::Row;
-use outside::Seq;
+use basics::Seq;
 
 /// The least set of a contour, with what shows that no smaller one infers its deltas.
 #[derive(Drop)]

@@ -4,7 +4,7 @@ ghost use Rattle.iup_optimal.specs.Rows.{IsLeastWay, IsRowTo, IsRowBack};
 ghost use Rattle.iup_optimal.specs.Steps.{Steps, count};
 
 use crate::table::Table;
-use outside::{NoMemory, Seq};
+use basics::{NoMemory, Seq};
 use std::alloc::Global;
 
 /// What bounds the number of arcs of the ways round a contour that pass one start.

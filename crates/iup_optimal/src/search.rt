@@ -8,7 +8,7 @@ use crate::table::Table;
 use crate::way::least_set;
 use fixpoint::Pair;
 use iup::infers;
-use outside::{NoMemory, Seq};
+use basics::{NoMemory, Seq};
 use std::alloc::Global;
 
 // The point whose starts have rows.

@@ -6,7 +6,7 @@ ghost use Rattle.iup_optimal.specs.declared.row.Row.{Row};
 
 use crate::row::{Row, row_from};
 use crate::table::Table;
-use outside::{NoMemory, Seq};
+use basics::{NoMemory, Seq};
 use std::alloc::Global;
 
 /// Whether a point is the pivot, or some arc from it passes strictly over the pivot.

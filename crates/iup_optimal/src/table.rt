@@ -7,7 +7,7 @@ use crate::side::both;
 use crate::sight::Sight;
 use fixpoint::Pair;
 use iup::{horizontal, vertical};
-use outside::NoMemory;
+use basics::NoMemory;
 use std::alloc::Global;
 
 /// The arcs of a contour: for each point in turn whether the arc of one point holds, of two and so on.

@@ -5,7 +5,7 @@ ghost use Rattle.iup.specs.Arcs.{IsContour, RisesFrom};
 use crate::{Least, least};
 use fixpoint::Pair;
 use iup::infers;
-use outside::NoMemory;
+use basics::NoMemory;
 use std::alloc::Global;
 
 // A point and its delta, in x and in y.

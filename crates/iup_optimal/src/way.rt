@@ -7,7 +7,7 @@ ghost use Rattle.iup_optimal.specs.Ways.{IsFewest, IsFirstMember, IsNext, Walks}
 
 use crate::row::{row_back, row_from};
 use crate::table::Table;
-use outside::NoMemory;
+use basics::NoMemory;
 use std::alloc::Global;
 
 /// The least set of a contour, where the least number of arcs that lead round it is known.

@@ -2,7 +2,7 @@
 use Rattle.std.proofs.Common.{◌≡◌, ℕ, zero, suc, ◌+◌, ◌<◌, Bool, true, false, cond, List, [], ◌∷◌, length, Option, Some, None, refl, sym, ap, arith}
 use Rattle.std.specs.Prelude.{option_map, ◌==◌, IfSome}
 use Rattle.memchr.specs.Find.{IsFirstByte, Passes, Nowhere, is_byte}
-use Rattle.markup_rules.specs.Bytes.{place_of}
+use Rattle.basics.specs.Bytes.{place_of}
 
 none_cases : (byte b : ℕ) (bytes : List ℕ) (is : Bool) → (b == byte) ≡ is → Nowhere (Passes (is_byte byte) (b ∷ bytes)) 0 (suc (length bytes)) → place_of byte bytes ≡ None → cond is (Some 0) (option_map (λ n. n + 1) (place_of byte bytes)) ≡ None
 none_cases byte b bytes true e nowhere later = absurd (nowhere 0 (omega arith) (omega arith) e)

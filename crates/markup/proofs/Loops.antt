@@ -1,10 +1,10 @@
 -- One item of the loop over a text.
 use Rattle.std.proofs.Common.{◌≡◌, ℕ, ◌<◌, List, length, Ok, sym, ap, ◌∙◌, arith}
 use Rattle.std.specs.Prelude.{Result}
-use Rattle.outside.specs.declared.fault.Spot.{Spot}
-use Rattle.outside.specs.declared.fault.Stop.{Stop}
-use Rattle.outside.specs.declared.fault.Stop.TheVariants.{At, NoMemory}
-use Rattle.outside.specs.Reading.{Fails}
+use Rattle.basics.specs.declared.fault.Spot.{Spot}
+use Rattle.basics.specs.declared.fault.Stop.{Stop}
+use Rattle.basics.specs.declared.fault.Stop.TheVariants.{At, NoMemory}
+use Rattle.basics.specs.Reading.{Fails}
 use Rattle.markup_rules.specs.Tree.{Tree}
 use Rattle.markup_rules.specs.Reading.{Item, item_at}
 use Rattle.markup_rules.specs.Outcome.{State, step}

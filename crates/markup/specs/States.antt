@@ -1,7 +1,7 @@
 -- What a reader that is under way stands for.
 use Rattle.std.specs.Prelude.{◌≡◌, ℕ, List, [], ◌∷◌, reverse, map, option_map, length, Option, None, Some}
-use Rattle.outside.specs.declared.fault.Stop.{Stop}
-use Rattle.outside.specs.declared.fault.Stop.TheVariants.{At, NoMemory}
+use Rattle.basics.specs.declared.fault.Stop.{Stop}
+use Rattle.basics.specs.declared.fault.Stop.TheVariants.{At, NoMemory}
 use Rattle.markup_rules.specs.Outcome as rules
 use Rattle.markup_rules.specs.Faults.{fault_of}
 use Rattle.markup_rules.specs.Reading.{Entry, Item, opens}

@@ -3,18 +3,18 @@ ghost use Rattle.std.specs.List.{list_any};
 ghost use Rattle.std.specs.Str.{bytes_eq};
 ghost use Rattle.markup_rules.specs.Syntax.{firsts};
 ghost use Rattle.markup_rules.specs.Reading as rules;
-ghost use Rattle.markup_rules.specs.Reading.{Agrees};
-ghost use Rattle.markup_rules.specs.Bytes.{after_run};
 ghost use Rattle.markup_rules.proofs.Attributes.{names_of, with_attribute};
 ghost use Rattle.markup.specs.Names.{HasNames};
 ghost use Rattle.markup.specs.Views.{attribute_view, text_bytes};
+ghost use Rattle.basics.specs.Optional.{Agrees};
+ghost use Rattle.basics.specs.Bytes.{after_run};
 
 use crate::bytes::{after_blanks, starts_blank};
 use crate::content::content_of;
 use crate::names::name_at;
 use crate::searches::place_of;
 use crate::text::Text;
-use outside::{Name, NoMemory, Seq};
+use basics::{Name, NoMemory, Seq};
 use std::alloc::Global;
 use std::collections::BTreeSet;
 

@@ -1,11 +1,12 @@
 ghost use Rattle.std.specs.Prelude.{◌≡◌, ◌≤◌, length};
 ghost use Rattle.std.specs.List.{list_all};
+ghost use Rattle.basics.specs.Bytes as runs;
 ghost use Rattle.markup_rules.specs.Bytes as rules;
-ghost use Rattle.markup_rules.specs.Bytes.{after_run, run_at};
+ghost use Rattle.basics.specs.Bytes.{after_run, run_at};
 
 /// Whether the byte is a space, tab, line feed or carriage return.
 pub(crate) fn is_blank(byte: u8) -> bool
-    ensures { result ≡ rules.is_blank byte }
+    ensures { result ≡ runs.is_blank byte }
 {
     byte == b' ' || byte == b'\t' || byte == b'\n' || byte == b'\r'
 }
@@ -72,7 +73,7 @@ pub(crate) fn is_text(bytes: &[u8]) -> bool
 
 /// Whether each byte is blank.
 pub(crate) fn are_blanks(bytes: &[u8]) -> bool
-    ensures { result ≡ list_all rules.is_blank bytes.now }
+    ensures { result ≡ list_all runs.is_blank bytes.now }
 {
     bytes.iter().all(|byte| is_blank(*byte))
 }
@@ -113,7 +114,7 @@ pub(crate) fn is_doctype(bytes: &[u8]) -> bool
 
 /// The bytes without the blanks at their front.
 pub(crate) fn after_blanks(bytes: &[u8]) -> &[u8]
-    ensures { result.now ≡ after_run rules.is_blank bytes.now }
+    ensures { result.now ≡ after_run runs.is_blank bytes.now }
 {
     for (place, byte) in bytes.iter().enumerate() {
         if !is_blank(*byte) {
@@ -137,7 +138,7 @@ fn name_length(bytes: &[u8]) -> usize
 }
 
 /// The bytes of names at the front, and what follows them.
-#[tactic(auto, using(markup_rules::proofs::Runs::front_of_run, markup_rules::proofs::Runs::rest_of_run))]
+#[tactic(auto, using(basics::proofs::Runs::front_of_run, basics::proofs::Runs::rest_of_run))]
 pub(crate) fn split_name(bytes: &[u8]) -> (&[u8], &[u8])
     ensures front { result.0.now ≡ run_at rules.is_name_byte bytes.now }
     ensures rest { result.1.now ≡ after_run rules.is_name_byte bytes.now }
@@ -160,7 +161,7 @@ fn plain_length(bytes: &[u8]) -> usize
 }
 
 /// The bytes at the front that stand for themselves, and what follows them.
-#[tactic(auto, using(markup_rules::proofs::Runs::front_of_run, markup_rules::proofs::Runs::rest_of_run))]
+#[tactic(auto, using(basics::proofs::Runs::front_of_run, basics::proofs::Runs::rest_of_run))]
 pub(crate) fn split_plain(bytes: &[u8]) -> (&[u8], &[u8])
     ensures front { result.0.now ≡ run_at rules.is_plain bytes.now }
     ensures rest { result.1.now ≡ after_run rules.is_plain bytes.now }

@@ -3,13 +3,14 @@ ghost use Rattle.std.specs.Prelude.{encode_utf8};
 ghost use Rattle.std.specs.Char.{digit_value, is_ascii_digit, is_ascii_hexdigit};
 ghost use Rattle.std.specs.List.{list_all};
 ghost use Rattle.std.specs.Str.Parse.{digits_value};
-ghost use Rattle.markup_rules.specs.Reading.{Agrees, allowed, character_of, content_of, number_of, number_reference, numbered, piece_at, reference_at, run_of};
+ghost use Rattle.markup_rules.specs.Reading.{allowed, character_of, content_of, number_of, number_reference, numbered, piece_at, reference_at, run_of};
 ghost use Rattle.markup.specs.Views.{piece_bytes, text_bytes};
+ghost use Rattle.basics.specs.Optional.{Agrees};
 
 use crate::bytes::split_plain;
 use crate::searches::place_of;
 use crate::text::{Piece, Text};
-use outside::NoMemory;
+use basics::NoMemory;
 use std::alloc::Global;
 
 /// One past the greatest character: where a number stops to count.

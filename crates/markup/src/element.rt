@@ -1,4 +1,4 @@
-use outside::{Name, Seq};
+use basics::{Name, Seq};
 
 /// An element of a source text.
 #[derive(Drop)]

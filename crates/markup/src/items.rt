@@ -1,8 +1,8 @@
 ghost use Rattle.std.specs.Prelude.{◌≡◌, ◌<◌, ◌≤◌, ◌+◌, length, IfSome, codes, drop};
-ghost use Rattle.markup_rules.specs.Bytes.{begins, first_place, place_of};
 ghost use Rattle.markup_rules.specs.Reading as rules;
 ghost use Rattle.markup_rules.specs.Reading.{body_by, comment, instruction, declaration, tag_before, tag_by, data_by};
 ghost use Rattle.markup.specs.Views.{item_view};
+ghost use Rattle.basics.specs.Bytes.{begins, first_place, place_of};
 
 use crate::bytes::starts_name;
 use crate::searches::{begins, first_place, place_of};

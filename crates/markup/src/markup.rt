@@ -1,5 +1,4 @@
 ghost use Rattle.std.specs.Prelude.{◌≡◌, IfOk, codes, drop, unwrap_or};
-ghost use Rattle.markup_rules.specs.Bytes as byte_rules;
 ghost use Rattle.markup_rules.specs.Reading as rules;
 ghost use Rattle.markup_rules.specs.Reading.{bad};
 ghost use Rattle.markup.specs.Views.{item_view, markup_view, opening_view};
@@ -11,7 +10,7 @@ use crate::items::Item;
 use crate::names::name_at;
 use crate::searches::{begins, first_place};
 use crate::text::Text;
-use outside::{Name, NoMemory, Seq};
+use basics::{Name, NoMemory, Seq};
 use std::alloc::Global;
 
 /// The name and the attributes of an element.

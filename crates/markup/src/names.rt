@@ -1,5 +1,6 @@
 ghost use Rattle.std.specs.Prelude.{◌≡◌};
-ghost use Rattle.markup_rules.specs.Reading.{Agrees, name_at};
+ghost use Rattle.markup_rules.specs.Reading.{name_at};
+ghost use Rattle.basics.specs.Optional.{Agrees};
 
 use crate::bytes::{split_name, starts_name};
 

@@ -1,6 +1,6 @@
 ghost use Rattle.std.specs.Prelude.{◌≡◌, Ok, Err, Some, IfOk, IfErr, ◌≤◌, length};
-ghost use Rattle.outside.specs.Reading.{Gives};
-ghost use Rattle.outside.specs.declared.fault.Spot.{Spot};
+ghost use Rattle.basics.specs.Reading.{Gives};
+ghost use Rattle.basics.specs.declared.fault.Spot.{Spot};
 ghost use Rattle.markup_rules.specs.Faults as faults;
 ghost use Rattle.markup_rules.specs.Faults.{fault_of};
 ghost use Rattle.markup_rules.specs.Syntax.{IsTree};
@@ -13,7 +13,7 @@ use crate::element::Element;
 use crate::items::item_at;
 use crate::searches::begins;
 use crate::state::State;
-use outside::Stop;
+use basics::Stop;
 use std::alloc::Global;
 
 /// The text without the byte order mark in front.

@@ -1,7 +1,5 @@
 ghost use Rattle.std.specs.Prelude.{◌≡◌, ◌-◌, ◌≤◌, pos, length, MatchResult, OnOk, IfOk, is_some, string_bytes, ◌++◌, ◌∷◌, [], Ok, Err};
-ghost use Rattle.outside.specs.Reading.{Fails, Gives, IsStop};
-ghost use Rattle.markup_rules.specs.Bytes as byte_rules;
-ghost use Rattle.markup_rules.specs.Reading as rules;
+ghost use Rattle.basics.specs.Reading.{Fails, Gives, IsStop};
 ghost use Rattle.markup_rules.specs.Faults.{is_allowed_at, is_innermost, lacks_end, spot};
 ghost use Rattle.markup_rules.specs.Outcome.{adopted, begun, changed, closed, initial, place_of_state, root_or_fault, step, texted};
 ghost use Rattle.markup.specs.Plain.{plain};
@@ -12,7 +10,7 @@ use crate::element::Element;
 use crate::items::{Item, opens};
 use crate::markup::{Markup, Opening, markup_of};
 use crate::text::Text;
-use outside::{Kind, Name, NoMemory, Seq, Stop, stop_at};
+use basics::{Kind, Name, NoMemory, Seq, Stop, stop_at};
 use std::alloc::Global;
 use std::mem;
 

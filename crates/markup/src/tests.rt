@@ -1,7 +1,7 @@
 mod plain;
 
 use crate::{Element, read};
-use outside::{Kind, Stop};
+use basics::{Kind, Stop};
 use plain::read_slowly;
 use std::alloc::{AllocError, Global};
 use std::fmt::Write;

@@ -1,7 +1,7 @@
 ghost use Rattle.std.specs.Prelude.{◌≡◌, ◌++◌, [], IfOk, string_bytes, encode_utf8};
 ghost use Rattle.markup.specs.Views.{piece_bytes, text_bytes};
 
-use outside::NoMemory;
+use basics::NoMemory;
 use std::alloc::Global;
 
 /// A run of characters, or the character that a reference stands for.

@@ -6,9 +6,10 @@ use Rattle.std.specs.Str.{bytes_eq}
 use Rattle.std.proofs.lemmas.List.{map-append}
 use Rattle.std.proofs.lemmas.Option.{some_pair_parts}
 use Rattle.markup_rules.specs.Syntax.{firsts}
-use Rattle.markup_rules.specs.Reading.{◌>>=◌, with_first, many, is_tag_end, attribute_at, attributes_at}
+use Rattle.markup_rules.specs.Reading.{with_first, many, is_tag_end, attribute_at, attributes_at}
 use Rattle.markup_rules.proofs.Fuel.{many_next, many_by}
 use Rattle.markup_rules.proofs.Shorter.{attribute_shortens}
+use Rattle.basics.specs.Optional.{◌>>=◌}
 
 abbrev Named : Type 0
 Named = List ℕ × List ℕ

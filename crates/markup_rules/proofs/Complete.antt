@@ -5,8 +5,8 @@ use Rattle.std.specs.List.{list_all}
 use Rattle.std.proofs.lemmas.Bool.{and_parts, and_right, and_left, lt-leb}
 use Rattle.std.proofs.lemmas.List.{length-map}
 use Rattle.std.proofs.lemmas.Slice.Eq.{bytes_eq-Decides}
-use Rattle.outside.specs.Reading as outside
-use Rattle.markup_rules.specs.Bytes.{is_blank, starts_name}
+use Rattle.basics.specs.Reading as outside
+use Rattle.markup_rules.specs.Bytes.{starts_name}
 use Rattle.markup_rules.specs.Tree.{Tree, node, trees_of}
 use Rattle.markup_rules.specs.Syntax.{IsName, Content, content_then, content_text, content_meaning, IsContent, Tag, tag_then, tag_attributes, IsTag, end_tag_then, aside_then, IsAside, Inside, only, then_aside, then_empty, then_child, inside_then, IsInside, own_text, children_from}
 use Rattle.markup_rules.specs.Syntax as written
@@ -20,6 +20,7 @@ use Rattle.markup_rules.proofs.Values.{content_append, content_again, tag_body, 
 use Rattle.markup_rules.proofs.Cuts.{content_no_less, tag_item, end_tag_item}
 use Rattle.markup_rules.proofs.Asides.{aside_cut, aside_again, data_cut, content_markup}
 use Rattle.markup_rules.proofs.Lengths.{content_length, aside_length, tag_length, end_tag_length, inside_length}
+use Rattle.basics.specs.Bytes.{is_blank}
 
 abbrev pub Cut : Type 0
 Cut = Item × List ℕ

@@ -3,9 +3,10 @@ use Rattle.std.proofs.Common.{◌≡◌, ℕ, ◌<◌, false, List, [], ◌∷�
 use Rattle.std.specs.Prelude.{IfSome, nat_eq}
 use Rattle.std.specs.List.{concat}
 use Rattle.std.proofs.lemmas.Option.{some_pair_parts}
-use Rattle.markup_rules.specs.Reading.{◌>>=◌, with_first, many, is_nil, piece_at, content_of}
+use Rattle.markup_rules.specs.Reading.{with_first, many, is_nil, piece_at, content_of}
 use Rattle.markup_rules.proofs.Fuel.{many_next}
 use Rattle.markup_rules.proofs.Shorter.{piece_shortens}
+use Rattle.basics.specs.Optional.{◌>>=◌}
 
 -- what content means behind something
 abbrev pub content_behind : List ℕ → List ℕ → Option (List ℕ)

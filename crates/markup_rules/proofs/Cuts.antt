@@ -5,12 +5,14 @@ use Rattle.std.specs.List.{list_all}
 use Rattle.std.proofs.lemmas.Bool.{and_parts, and_right}
 use Rattle.std.proofs.lemmas.Bool.Decides.{nat_tests}
 use Rattle.std.proofs.lemmas.List.{take_at, drop_at, length-append}
-use Rattle.markup_rules.specs.Bytes.{is_blank, is_plain, is_name_start, is_name_byte, starts_name}
+use Rattle.markup_rules.specs.Bytes.{is_plain, is_name_start, is_name_byte, starts_name}
 use Rattle.markup_rules.specs.Syntax.{IsName, Reference, ampersand, less, greater, quotation, apostrophe, decimal, hexadecimal, reference_body, IsReference, Content, run, then_reference, content_then, content_text, IsContent, Attribute, attribute_then, IsAttribute, attributes_then, AreAttributes, Tag, tag_then, IsTag, end_tag_then}
 use Rattle.markup_rules.specs.Reading.{Item, tag, tag_end, tag_before, tag_by, markup_at, item_at}
-use Rattle.markup_rules.proofs.Fronts.{all_in, all_both}
+use Rattle.markup_rules.proofs.Fronts.{all_both}
 use Rattle.markup_rules.proofs.Values.{content_append, tag_body}
 use Rattle.std.specs.Char.{is_ascii_digit, is_ascii_hexdigit}
+use Rattle.basics.specs.Bytes.{is_blank}
+use Rattle.basics.proofs.Runs.{all_in}
 
 -- ---- how the end of a tag is looked for
 

@@ -1,7 +1,7 @@
 -- The fault that reading comes to is the first one by items.
 use Rattle.std.proofs.Common.{◌≡◌, ℕ, ◌-◌, Bool, List, [], ◌∷◌, length, Option, Some, None, Ok, Err, refl, sym, ap, ◌∙◌}
 use Rattle.std.specs.Prelude.{Result}
-use Rattle.outside.specs.declared.fault.Spot.{Spot}
+use Rattle.basics.specs.declared.fault.Spot.{Spot}
 use Rattle.markup_rules.specs.Tree.{Tree}
 use Rattle.markup_rules.specs.Reading.{Entry, Markup, start, empty, finish, aside, doctype, content, bad, items_of, markup_of}
 use Rattle.markup_rules.specs.Faults.{place_after, closed_place, item_fault, fault_from, fault_of, or_else, after_mark}

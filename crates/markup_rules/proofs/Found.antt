@@ -5,8 +5,8 @@ use Rattle.std.specs.List.{list_all}
 use Rattle.std.proofs.lemmas.Bool.{and_from}
 use Rattle.std.proofs.lemmas.List.{length-append}
 use Rattle.std.proofs.lemmas.List.Folds.{list_all-append}
-use Rattle.outside.specs.declared.fault.Spot.{Spot}
-use Rattle.markup_rules.specs.Bytes.{is_blank, is_doctype, begins}
+use Rattle.basics.specs.declared.fault.Spot.{Spot}
+use Rattle.markup_rules.specs.Bytes.{is_doctype}
 use Rattle.markup_rules.specs.Tree.{Tree, node, trees_of}
 use Rattle.markup_rules.specs.Syntax.{IsName, Content, content_then, content_text, content_meaning, IsContent, Tag, tag_then, tag_attributes, IsTag, end_tag_then, aside_then, IsAside, Inside, inside_then, Outside, white, and_aside, outside_then, IsOutside, Prolog, undeclared, declared, prolog_then, IsProlog, Root, empty_root, full_root, root_then, IsRoot, root_tree, order_mark, IsTree}
 use Rattle.markup_rules.specs.Syntax as written
@@ -20,6 +20,7 @@ use Rattle.markup_rules.proofs.Lengths.{content_length, aside_length, tag_length
 use Rattle.markup_rules.proofs.Told.{Read, of_aside, of_doctype, of_finish, of_start, of_empty, of_content, of_bad, item_read, begins_is_front}
 use Rattle.markup_rules.proofs.Complete.{state}
 use Rattle.markup_rules.proofs.Sound.{step_takes, inside_takes}
+use Rattle.basics.specs.Bytes.{is_blank, begins}
 
 -- ---- blanks in front of what stands round the root
 

@@ -8,40 +8,14 @@ use Rattle.std.proofs.lemmas.Bool.{and_parts, and_from, lt-ltb, eq-eqb, cond-tru
 use Rattle.std.proofs.lemmas.Bool.Decides.{nat_tests}
 use Rattle.std.proofs.lemmas.List.{take_at, drop_at, length_push}
 use Rattle.std.proofs.lemmas.List.Folds.{list_all-append}
-use Rattle.markup_rules.specs.Bytes.{is_name_byte, starts_name, run_at, after_run, place_of}
+use Rattle.markup_rules.specs.Bytes.{is_name_byte, starts_name}
 use Rattle.markup_rules.specs.Syntax.{IsName, Reference, ampersand, less, greater, quotation, apostrophe, decimal, hexadecimal, reference_body, character, IsNumbered, IsReference}
 use Rattle.markup_rules.specs.Reading.{name_at, allowed, numbered, number_of, number_reference, character_of, reference_at}
+use Rattle.basics.specs.Bytes.{run_at, after_run, place_of}
+use Rattle.basics.specs.Bytes.{stops}
+use Rattle.basics.proofs.Runs.{not_true, run_at_again, after_run_again, all_in}
 
 -- ---- runs of one class
-
--- no byte of the class stands at the front
-abbrev pub stops : (ℕ → Bool) → List ℕ → Bool
-stops class [] = true
-stops class (b ∷ bytes) = not (class b)
-
-not_true : (b : Bool) → not b ≡ true → b ≡ false
-not_true true e = absurd cc
-not_true false e = refl
-
-run_at_stop : (class : ℕ → Bool) (rest : List ℕ) → stops class rest ≡ true → run_at class rest ≡ []
-run_at_stop class [] stop = refl
-run_at_stop class (b ∷ rest) stop = rw (not_true (class b) stop) refl
-
-after_run_stop : (class : ℕ → Bool) (rest : List ℕ) → stops class rest ≡ true → after_run class rest ≡ rest
-after_run_stop class [] stop = refl
-after_run_stop class (b ∷ rest) stop = rw (not_true (class b) stop) refl
-
-pub run_at_again : (class : ℕ → Bool) (bytes rest : List ℕ) → list_all class bytes ≡ true → stops class rest ≡ true → run_at class (bytes ++ rest) ≡ bytes
-run_at_again class [] rest all stop = run_at_stop class rest stop
-run_at_again class (b ∷ bytes) rest all stop =
-    let parts = and_parts (class b) (list_all class bytes) all in
-    cond-true (class b) (b ∷ run_at class (bytes ++ rest)) [] parts.0 ∙ ap (λ bs. b ∷ bs) (run_at_again class bytes rest parts.1 stop)
-
-pub after_run_again : (class : ℕ → Bool) (bytes rest : List ℕ) → list_all class bytes ≡ true → stops class rest ≡ true → after_run class (bytes ++ rest) ≡ rest
-after_run_again class [] rest all stop = after_run_stop class rest stop
-after_run_again class (b ∷ bytes) rest all stop =
-    let parts = and_parts (class b) (list_all class bytes) all in
-    cond-true (class b) (after_run class (bytes ++ rest)) (b ∷ (bytes ++ rest)) parts.0 ∙ after_run_again class bytes rest parts.1 stop
 
 -- the first place of a byte that isn't in a run before it
 pub place_again : (byte : ℕ) (bytes rest : List ℕ) → list_all (λ b. not (b == byte)) bytes ≡ true → place_of byte (bytes ++ byte ∷ rest) ≡ Some (length bytes)
@@ -50,13 +24,6 @@ place_again byte (b ∷ bytes) rest all =
     let parts = and_parts (not (b == byte)) (list_all (λ b. not (b == byte)) bytes) all in
     let one : length bytes + 1 ≡ suc (length bytes) = omega arith in
     rw (not_true (b == byte) parts.0, place_again byte bytes rest parts.1) (ap (λ (n : ℕ). Some n) one)
-
--- a class all of whose bytes are in another one
-pub all_in : (class other : ℕ → Bool) → ((b : ℕ) → class b ≡ true → other b ≡ true) → (bytes : List ℕ) → list_all class bytes ≡ true → list_all other bytes ≡ true
-all_in class other within [] all = refl
-all_in class other within (b ∷ bytes) all =
-    let parts = and_parts (class b) (list_all class bytes) all in
-    and_from (other b) (list_all other bytes) (within b parts.0) (all_in class other within bytes parts.1)
 
 pub all_both : (class : ℕ → Bool) (front back : List ℕ) → list_all class front ≡ true → list_all class back ≡ true → list_all class (front ++ back) ≡ true
 all_both class front back p q = list_all-append class front back ∙ and_from (list_all class front) (list_all class back) p q

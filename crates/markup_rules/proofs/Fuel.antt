@@ -2,8 +2,9 @@
 use Rattle.std.proofs.Common.{◌≡◌, ℕ, zero, suc, ◌+◌, ◌<◌, ◌≤◌, Bool, true, false, cond, List, [], ◌∷◌, length, take, drop, Option, Some, None, refl, ap, arith}
 use Rattle.std.specs.Prelude.{◌==◌, option_map, codes, IfSome}
 use Rattle.std.proofs.lemmas.List.{length-drop}
-use Rattle.markup_rules.specs.Bytes.{after_run, begins, first_place, place_of}
-use Rattle.markup_rules.specs.Reading.{◌>>=◌, with_first, no_more, many_to, many, Item, comment, instruction, declaration, broken, tag, item_at, markup_at, data_by, body_by, tag_by, tag_before, tag_end, items_to, items_of, opens, Entry}
+use Rattle.markup_rules.specs.Reading.{with_first, no_more, many_to, many, Item, comment, instruction, declaration, broken, tag, item_at, markup_at, data_by, body_by, tag_by, tag_before, tag_end, items_to, items_of, opens, Entry}
+use Rattle.basics.specs.Bytes.{after_run, begins, first_place, place_of}
+use Rattle.basics.specs.Optional.{◌>>=◌}
 
 -- the reader leaves fewer bytes than it was given
 abbrev pub Shortens : {A : Type 0} → (List ℕ → Option (A × List ℕ)) → Type 0

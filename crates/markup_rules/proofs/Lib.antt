@@ -11,7 +11,6 @@ mod Joins
 mod Lengths
 pub mod Numbers
 mod Parts
-pub mod Runs
 pub mod Searches
 pub mod Shorter
 mod Sound

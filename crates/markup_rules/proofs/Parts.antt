@@ -10,38 +10,18 @@ use Rattle.std.proofs.lemmas.List.Folds.{list_all-append}
 use Rattle.std.proofs.lemmas.Option.{cond_some, some_pair_parts}
 use Rattle.std.proofs.lemmas.Slice.Eq.{bytes_eq-Decides}
 use Rattle.std.proofs.lemmas.Str.{IsUtf8-append, IsUtf8-nil, IsUtf8-from_is_utf8, is_utf8-from_IsUtf8}
-use Rattle.markup_rules.specs.Bytes.{is_plain, is_name_start, is_name_byte, is_allowed, starts_name, run_at, after_run, place_of}
+use Rattle.markup_rules.specs.Bytes.{is_plain, is_name_start, is_name_byte, is_allowed, starts_name}
 use Rattle.markup_rules.specs.Syntax.{IsName, Reference, ampersand, less, greater, quotation, apostrophe, decimal, hexadecimal, reference_body, character, IsNumbered, IsReference, Content, run, then_reference, content_then, content_text, content_meaning, IsRun, IsContent}
-use Rattle.markup_rules.specs.Reading.{◌>>=◌, name_at, allowed, numbered, number_of, number_reference, character_of, reference_at, run_of, piece_at, content_of}
+use Rattle.markup_rules.specs.Reading.{name_at, allowed, numbered, number_of, number_reference, character_of, reference_at, run_of, piece_at, content_of}
 use Rattle.markup_rules.proofs.Contents.{content_next, content_end, content_shorter}
+use Rattle.basics.specs.Bytes.{run_at, after_run, place_of}
+use Rattle.basics.specs.Optional.{◌>>=◌}
+use Rattle.basics.proofs.Optional.{bind_some, same_some}
+use Rattle.basics.proofs.Runs.{run_whole, run_all}
 
 -- ---- steps
 
--- the value of a step that found something
-pub bind_some : {A B : Type 0} (o : Option A) (f : A → Option B) (y : B) → (o >>= f) ≡ Some y → (x : A) × (o ≡ Some x) × (f x ≡ Some y)
-bind_some (Some x) f y e = (x, refl, e)
-bind_some None f y e = absurd cc
-
-pub same_some : {A : Type 0} (a b : A) → (let o : Option A = Some a in o ≡ Some b) → a ≡ b
-same_some a b e = cc
-
 -- ---- runs
-
-run_cases : (class : ℕ → Bool) (b : ℕ) (bytes : List ℕ) (is : Bool) → bytes ≡ run_at class bytes ++ after_run class bytes → b ∷ bytes ≡ cond is (b ∷ run_at class bytes) [] ++ cond is (after_run class bytes) (b ∷ bytes)
-run_cases class b bytes true later = ap (λ bs. b ∷ bs) later
-run_cases class b bytes false later = refl
-
-pub run_whole : (class : ℕ → Bool) (bytes : List ℕ) → bytes ≡ run_at class bytes ++ after_run class bytes
-run_whole class [] = refl
-run_whole class (b ∷ bytes) = run_cases class b bytes (class b) (run_whole class bytes)
-
-run_all_cases : (class : ℕ → Bool) (b : ℕ) (bytes : List ℕ) (is : Bool) → class b ≡ is → list_all class (run_at class bytes) ≡ true → list_all class (cond is (b ∷ run_at class bytes) []) ≡ true
-run_all_cases class b bytes true e later = rw (e, later) refl
-run_all_cases class b bytes false e later = refl
-
-pub run_all : (class : ℕ → Bool) (bytes : List ℕ) → list_all class (run_at class bytes) ≡ true
-run_all class [] = refl
-run_all class (b ∷ bytes) = run_all_cases class b bytes (class b) refl (run_all class bytes)
 
 -- ---- the first place of a byte
 

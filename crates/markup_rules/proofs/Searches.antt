@@ -3,7 +3,7 @@ use Rattle.std.proofs.Common.{◌≡◌, ℕ, ◌+◌, ◌<◌, Bool, false, ◌
 use Rattle.std.specs.Prelude.{nat_eq, option_map, ◌==◌}
 use Rattle.std.specs.List.{starts_with}
 use Rattle.std.proofs.lemmas.List.{length-drop, drop-drop}
-use Rattle.markup_rules.specs.Bytes.{begins, first_place}
+use Rattle.basics.specs.Bytes.{begins, first_place}
 
 -- a mark at the front
 pub begins_is : (mark bytes : List ℕ) → starts_with nat_eq bytes mark ≡ begins mark bytes

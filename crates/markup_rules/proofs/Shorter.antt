@@ -3,9 +3,11 @@ use Rattle.std.proofs.Common.{ℕ, suc, ◌+◌, ◌<◌, ◌≤◌, Bool, true,
 use Rattle.std.specs.Prelude.{◌==◌, ◌||◌, nat_lt, IfSome, encode_utf8}
 use Rattle.std.specs.Str.{is_utf8}
 use Rattle.std.proofs.lemmas.List.{length-drop}
-use Rattle.markup_rules.specs.Bytes.{is_blank, is_name_byte, is_plain, starts_name, run_at, after_run, place_of}
-use Rattle.markup_rules.specs.Reading.{◌>>=◌, name_at, reference_at, character_of, run_of, piece_at, content_of, blank_at, equals_at, quoted_at, value_at, label_at, attribute_at}
+use Rattle.markup_rules.specs.Bytes.{is_name_byte, is_plain, starts_name}
+use Rattle.markup_rules.specs.Reading.{name_at, reference_at, character_of, run_of, piece_at, content_of, blank_at, equals_at, quoted_at, value_at, label_at, attribute_at}
 use Rattle.markup_rules.proofs.Fuel.{Shortens, after_run_length}
+use Rattle.basics.specs.Bytes.{is_blank, run_at, after_run, place_of}
+use Rattle.basics.specs.Optional.{◌>>=◌}
 
 abbrev Below : {A : Type 0} → ℕ → Option (A × List ℕ) → Type 0
 Below n o = IfSome o (λ r. length r.1 < n)

@@ -6,10 +6,10 @@ use Rattle.std.specs.Str.{bytes_eq}
 use Rattle.std.proofs.lemmas.Bool.{leb-false}
 use Rattle.std.proofs.lemmas.List.{length-map}
 use Rattle.std.proofs.lemmas.Slice.Eq.{bytes_eq-Decides}
-use Rattle.outside.specs.declared.fault.Kind.TheVariants.{Unfinished, BadText, TooDeep}
-use Rattle.outside.specs.declared.fault.Spot.{Spot}
-use Rattle.outside.specs.Reading as outside
-use Rattle.markup_rules.specs.Bytes.{is_blank, starts_name}
+use Rattle.basics.specs.declared.kinds.Kind.TheVariants.{Unfinished, BadText, TooDeep}
+use Rattle.basics.specs.declared.fault.Spot.{Spot}
+use Rattle.basics.specs.Reading as outside
+use Rattle.markup_rules.specs.Bytes.{starts_name}
 use Rattle.markup_rules.specs.Tree.{Tree, node, trees_of}
 use Rattle.markup_rules.specs.Syntax.{IsName, Content, run, then_reference, content_then, content_text, content_meaning, IsContent, IsRun, Tag, tag_then, tag_attributes, IsTag, end_tag_then, aside_then, IsAside, Inside, only, then_aside, then_empty, then_child, inside_then, IsInside, own_text, children_from}
 use Rattle.markup_rules.specs.Syntax as written
@@ -23,6 +23,7 @@ use Rattle.markup_rules.proofs.Lengths.{content_length, aside_length, tag_length
 use Rattle.markup_rules.proofs.Told.{Read, of_aside, of_doctype, of_finish, of_start, of_empty, of_content, of_bad, item_read}
 use Rattle.markup_rules.proofs.Complete.{state, grown}
 use Rattle.markup_rules.proofs.Joins.{with_content, with_content_is, with_content_text, with_content_own, with_content_children, empty_run}
+use Rattle.basics.specs.Bytes.{is_blank}
 
 -- ---- one item
 

@@ -1,8 +1,8 @@
 -- Reading item by item, as a loop over the text does.
 use Rattle.std.proofs.Common.{◌≡◌, ℕ, ◌<◌, List, [], ◌∷◌, length, Ok, Err, refl, sym, ap, ◌∙◌, arith}
 use Rattle.std.specs.Prelude.{Result}
-use Rattle.outside.specs.declared.fault.Spot.{Spot}
-use Rattle.outside.specs.Reading.{◌>>=◌}
+use Rattle.basics.specs.declared.fault.Spot.{Spot}
+use Rattle.basics.specs.Reading.{◌>>=◌}
 use Rattle.markup_rules.specs.Tree.{Tree}
 use Rattle.markup_rules.specs.Reading.{item_at, items_of}
 use Rattle.markup_rules.specs.Faults.{after_mark}

@@ -5,14 +5,18 @@ use Rattle.std.specs.List.{list_all}
 use Rattle.std.proofs.lemmas.Bool.{eqb-true, or_cases}
 use Rattle.std.proofs.lemmas.Option.{cond_some, some_pair_parts}
 use Rattle.std.proofs.lemmas.Slice.Eq.{bytes_eq-Decides}
-use Rattle.markup_rules.specs.Bytes.{is_blank, starts_blank, run_at, after_run, place_of}
+use Rattle.markup_rules.specs.Bytes.{starts_blank}
 use Rattle.markup_rules.specs.Syntax.{IsName, Attribute, attribute_then, attribute_meaning, IsAttribute, attributes_then, AreAttributes, firsts, Tag, IsTag}
-use Rattle.markup_rules.specs.Reading.{◌>>=◌, with_first, many, name_at, content_of, blank_at, equals_at, quoted_at, value_at, label_at, attribute_at, attributes_at, is_nil, is_slash, is_tag_end, Markup, start, empty, finish, opened, start_tag, end_tag, tag_markup}
+use Rattle.markup_rules.specs.Reading.{with_first, many, name_at, content_of, blank_at, equals_at, quoted_at, value_at, label_at, attribute_at, attributes_at, is_nil, is_slash, is_tag_end, Markup, start, empty, finish, opened, start_tag, end_tag, tag_markup}
 use Rattle.markup_rules.proofs.Fuel.{many_next, many_by}
 use Rattle.markup_rules.proofs.Shorter.{attribute_shortens}
 use Rattle.markup_rules.proofs.Attributes.{attribute_shorter}
 use Rattle.markup_rules.proofs.Values.{content_append, tag_body, opening_of}
-use Rattle.markup_rules.proofs.Parts.{bind_some, same_some, run_whole, run_all, place_takes, name_takes, TakesContent, content_takes}
+use Rattle.markup_rules.proofs.Parts.{place_takes, name_takes, TakesContent, content_takes}
+use Rattle.basics.specs.Bytes.{is_blank, run_at, after_run, place_of}
+use Rattle.basics.specs.Optional.{◌>>=◌}
+use Rattle.basics.proofs.Optional.{bind_some, same_some}
+use Rattle.basics.proofs.Runs.{run_whole, run_all}
 
 -- ---- attributes
 

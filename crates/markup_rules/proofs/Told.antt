@@ -4,14 +4,17 @@ use Rattle.std.specs.Prelude.{◌==◌, codes, is_none, option_map, unwrap_or}
 use Rattle.std.specs.List.{list_all}
 use Rattle.std.proofs.lemmas.Bool.{and_parts, eqb-true, or_cases}
 use Rattle.std.proofs.lemmas.List.{take-append-drop, drop-drop}
-use Rattle.markup_rules.specs.Bytes.{is_blank, is_text, is_doctype, begins, first_place, place_of}
+use Rattle.markup_rules.specs.Bytes.{is_text, is_doctype}
 use Rattle.markup_rules.specs.Syntax.{IsName, Content, content_then, content_text, content_meaning, IsContent, Tag, tag_then, IsTag, end_tag_then, aside_then, IsAside, IsWithout}
 use Rattle.markup_rules.specs.Syntax as written
-use Rattle.markup_rules.specs.Reading.{◌>>=◌, Item, comment, instruction, declaration, tag, broken, unended, data_between, data_to_end, body_by, quote_after, ends_tag, tag_end, tag_before, tag_by, markup_at, data_by, item_at, Markup, start, empty, finish, aside, doctype, content, bad, content_of, if_right, tag_markup, data_markup, comment_markup, instruction_markup, declaration_markup, markup_of}
+use Rattle.markup_rules.specs.Reading.{Item, comment, instruction, declaration, tag, broken, unended, data_between, data_to_end, body_by, quote_after, ends_tag, tag_end, tag_before, tag_by, markup_at, data_by, item_at, Markup, start, empty, finish, aside, doctype, content, bad, content_of, if_right, tag_markup, data_markup, comment_markup, instruction_markup, declaration_markup, markup_of}
 use Rattle.markup_rules.proofs.Values.{content_append, opening_of}
 use Rattle.markup_rules.proofs.Cuts.{tag_split}
-use Rattle.markup_rules.proofs.Parts.{same_some, place_takes, TakesContent, content_takes}
+use Rattle.markup_rules.proofs.Parts.{place_takes, TakesContent, content_takes}
 use Rattle.markup_rules.proofs.Tags.{TakesTag, TakesFinish, tag_takes}
+use Rattle.basics.specs.Bytes.{is_blank, begins, first_place, place_of}
+use Rattle.basics.specs.Optional.{◌>>=◌}
+use Rattle.basics.proofs.Optional.{same_some}
 
 -- ---- marks
 

@@ -4,13 +4,16 @@ use Rattle.std.specs.Prelude.{◌==◌, ◌||◌, encode_utf8, unwrap_or}
 use Rattle.std.specs.List.{list_all}
 use Rattle.std.proofs.lemmas.Bool.{and_parts, lt-ltb, eq-eqb, or_left, or_right}
 use Rattle.std.proofs.lemmas.Bool.Decides.{nat_tests}
-use Rattle.markup_rules.specs.Bytes.{is_blank, is_plain, is_name_start, is_name_byte, starts_name, starts_blank}
+use Rattle.markup_rules.specs.Bytes.{is_plain, is_name_start, is_name_byte, starts_name, starts_blank}
 use Rattle.markup_rules.specs.Syntax.{IsName, Reference, reference_body, character, IsReference, Content, run, then_reference, content_then, content_text, content_meaning, IsRun, IsContent, Attribute, attribute_then, attribute_meaning, IsAttribute, attributes_then, AreAttributes, Tag, tag_attributes, IsTag}
-use Rattle.markup_rules.specs.Reading.{◌>>=◌, many, run_of, piece_at, content_of, blank_at, equals_at, quoted_at, value_at, label_at, attribute_at, attributes_at, is_nil, is_slash, is_tag_end, Opening, start, empty, finish, bad, opened, start_tag, end_tag, tag_markup, markup_of, tag}
+use Rattle.markup_rules.specs.Reading.{many, run_of, piece_at, content_of, blank_at, equals_at, quoted_at, value_at, label_at, attribute_at, attributes_at, is_nil, is_slash, is_tag_end, Opening, start, empty, finish, bad, opened, start_tag, end_tag, tag_markup, markup_of, tag}
 use Rattle.markup_rules.proofs.Fuel.{many_next, many_by}
 use Rattle.markup_rules.proofs.Shorter.{attribute_shortens}
 use Rattle.markup_rules.proofs.Contents.{content_by, content_next, content_end}
-use Rattle.markup_rules.proofs.Fronts.{stops, run_at_again, after_run_again, place_again, before_place, behind_place, name_again, reference_again}
+use Rattle.markup_rules.proofs.Fronts.{place_again, before_place, behind_place, name_again, reference_again}
+use Rattle.basics.specs.Bytes.{is_blank, stops}
+use Rattle.basics.specs.Optional.{◌>>=◌}
+use Rattle.basics.proofs.Runs.{run_at_again, after_run_again}
 
 not_false : (b : Bool) → b ≡ false → not b ≡ true
 not_false true e = absurd cc

@@ -7,7 +7,7 @@ use Rattle.std.proofs.lemmas.Bool.Decides.{nat_tests}
 use Rattle.std.proofs.lemmas.List.{get_or_past, length-append}
 use Rattle.std.proofs.lemmas.List.Sums.{AllPass-from_list_all}
 use Rattle.std.proofs.lemmas.Str.{IsUtf8-from_ascii, is_utf8-from_IsUtf8}
-use Rattle.markup_rules.specs.Bytes.{is_blank, is_plain, is_doctype, begins, starts_name}
+use Rattle.markup_rules.specs.Bytes.{is_plain, is_doctype, starts_name}
 use Rattle.markup_rules.specs.Tree.{Tree, node, trees_of}
 use Rattle.markup_rules.specs.Syntax.{Content, run, content_text, content_meaning, IsContent, IsRun, Tag, tag_then, tag_attributes, IsTag, end_tag_then, aside_then, IsAside, Inside, inside_then, IsInside, own_text, children_from, Outside, white, and_aside, outside_then, IsOutside, Prolog, undeclared, declared, prolog_then, IsProlog, Root, empty_root, full_root, root_then, IsRoot, root_tree, order_mark, IsTree}
 use Rattle.markup_rules.specs.Syntax as written
@@ -16,10 +16,11 @@ use Rattle.markup_rules.specs.Faults.{after_mark}
 use Rattle.markup_rules.specs.Outcome.{initial, begun, outcome}
 use Rattle.markup_rules.proofs.Steps.{rest_from, rest_begins, rest_done}
 use Rattle.markup_rules.proofs.Values.{content_again, opening_of}
-use Rattle.markup_rules.proofs.Fronts.{all_in}
 use Rattle.markup_rules.proofs.Asides.{doctype_cut, doctype_again, data_cut, last_cut, data_end_markup}
 use Rattle.markup_rules.proofs.Lengths.{tag_length, prolog_length}
 use Rattle.markup_rules.proofs.Complete.{state, take_item, aside_step, aside_tail, aside_front, start_step, empty_step, finish_step, grown, inside_reads}
+use Rattle.basics.specs.Bytes.{is_blank, begins}
+use Rattle.basics.proofs.Runs.{all_in}
 
 -- ---- blanks
 

@@ -3,10 +3,7 @@ use Rattle.std.specs.Prelude.{ℕ, Bool, true, false, not, ◌&&◌, ◌||◌, L
 use Rattle.std.specs.List.{list_all}
 use Rattle.std.specs.Str.{is_utf8}
 use Rattle.std.specs.Char.{is_ascii_alphabetic, is_ascii_digit}
-
--- a space, tab, line feed or carriage return
-abbrev pub is_blank : ℕ → Bool
-is_blank b = (b == 32) || ((b == 9) || ((b == 10) || (b == 13)))
+use Rattle.basics.specs.Bytes.{is_blank}
 
 -- a byte of a character that may stand in a source text: those below the space are the other three blanks
 abbrev pub is_character : ℕ → Bool
@@ -49,28 +46,3 @@ abbrev pub is_allowed : ℕ → Bool
 is_allowed n = is_character n && (nat_lt n 0xD800 || (nat_le 0xE000 n && nat_lt n 0x11_0000))
 
 -- ---- what stands at the front
-
--- the bytes of one class at the front, and what follows them
-abbrev pub run_at : (ℕ → Bool) → List ℕ → List ℕ
-run_at class [] = []
-run_at class (b ∷ bytes) = if class b then b ∷ run_at class bytes else []
-
-abbrev pub after_run : (ℕ → Bool) → List ℕ → List ℕ
-after_run class [] = []
-after_run class (b ∷ bytes) = if class b then after_run class bytes else b ∷ bytes
-
--- whether the mark stands at the front
-abbrev pub begins : List ℕ → List ℕ → Bool
-begins [] bytes = true
-begins (m ∷ mark) [] = false
-begins (m ∷ mark) (b ∷ bytes) = (m == b) && begins mark bytes
-
--- the first place from which on the bytes pass
-abbrev pub first_place : (List ℕ → Bool) → List ℕ → Option ℕ
-first_place test [] = None
-first_place test (b ∷ bytes) = if test (b ∷ bytes) then Some 0 else option_map (λ n. n + 1) (first_place test bytes)
-
--- the first place of a byte
-abbrev pub place_of : ℕ → List ℕ → Option ℕ
-place_of byte [] = None
-place_of byte (b ∷ bytes) = if b == byte then Some 0 else option_map (λ n. n + 1) (place_of byte bytes)

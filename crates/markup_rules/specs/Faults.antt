@@ -1,12 +1,12 @@
 -- The one fault of a text that has no tree: items are tested in order, and the first faulty one decides.
 use Rattle.std.specs.Prelude.{ℕ, ◌-◌, pos, Bool, true, false, not, ◌&&◌, ◌||◌, List, [], ◌∷◌, length, drop, Option, Some, None, nat_le, if◌then◌else◌}
 use Rattle.std.specs.Str.{bytes_eq}
-use Rattle.outside.specs.declared.fault.Kind.{Kind}
-use Rattle.outside.specs.declared.fault.Kind.TheVariants.{Unfinished, BadText, TooDeep}
-use Rattle.outside.specs.declared.fault.Spot.{Spot}
-use Rattle.markup_rules.specs.Bytes.{begins}
+use Rattle.basics.specs.declared.kinds.Kind.{Kind}
+use Rattle.basics.specs.declared.kinds.Kind.TheVariants.{Unfinished, BadText, TooDeep}
+use Rattle.basics.specs.declared.fault.Spot.{Spot}
 use Rattle.markup_rules.specs.Syntax.{order_mark}
 use Rattle.markup_rules.specs.Reading.{Item, unended, data_to_end, Entry, Markup, start, empty, finish, aside, doctype, content, bad, is_nil, items_of, markup_of}
+use Rattle.basics.specs.Bytes.{begins}
 
 -- where an item stands: the names of the open elements, the innermost first, and whether the root has ended
 -- and a document type has stood

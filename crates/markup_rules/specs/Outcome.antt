@@ -1,8 +1,8 @@
 -- What the reading of a text comes to, item by item, with the elements that are open.
 use Rattle.std.specs.Prelude.{ℕ, ◌-◌, Bool, true, false, List, [], ◌∷◌, ◌++◌, length, map, Option, Some, None, is_some, Result, Ok, Err}
-use Rattle.outside.specs.declared.fault.Kind.TheVariants.{Unfinished}
-use Rattle.outside.specs.declared.fault.Spot.{Spot}
-use Rattle.outside.specs.Reading.{◌>>=◌}
+use Rattle.basics.specs.declared.kinds.Kind.TheVariants.{Unfinished}
+use Rattle.basics.specs.declared.fault.Spot.{Spot}
+use Rattle.basics.specs.Reading.{◌>>=◌}
 use Rattle.markup_rules.specs.Tree.{Tree, node, trees_of}
 use Rattle.markup_rules.specs.Reading.{Entry, Opening, Markup, start, empty, finish, aside, doctype, content, bad, items_of, markup_of}
 use Rattle.markup_rules.specs.Faults.{Place, after_mark, item_fault, spot}

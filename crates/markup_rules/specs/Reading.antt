@@ -4,19 +4,10 @@ use Rattle.std.specs.List.{list_all, concat}
 use Rattle.std.specs.Str.{is_utf8, bytes_eq}
 use Rattle.std.specs.Str.Parse.{digits_value}
 use Rattle.std.specs.Char.{is_ascii_digit, is_ascii_hexdigit}
-use Rattle.markup_rules.specs.Bytes.{is_blank, is_plain, is_name_byte, is_text, is_doctype, is_allowed, starts_name, starts_blank, run_at, after_run, begins, first_place, place_of}
+use Rattle.markup_rules.specs.Bytes.{is_plain, is_name_byte, is_text, is_doctype, is_allowed, starts_name, starts_blank}
 use Rattle.markup_rules.specs.Syntax.{firsts}
-
--- nothing, or what the second step makes of the first one's value
-infixl 10 ◌>>=◌
-abbrev pub ◌>>=◌ : {A B : Type 0} → Option A → (A → Option B) → Option B
-(Some x) >>= f = f x
-None >>= f = None
-
--- a call agrees with the reading: it found the same, seen by view, or nothing as well
-abbrev pub Agrees : {X Y : Type 0} → (X → Y) → Option X → Option Y → Type 0
-Agrees view (Some x) reading = reading ≡ Some (view x)
-Agrees view None reading = reading ≡ None
+use Rattle.basics.specs.Bytes.{is_blank, run_at, after_run, begins, first_place, place_of}
+use Rattle.basics.specs.Optional.{◌>>=◌}
 
 -- one more value in front of those that were found
 abbrev pub with_first : {A : Type 0} → A → Option (List A × List ℕ) → Option (List A × List ℕ)

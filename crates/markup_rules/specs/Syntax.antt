@@ -6,8 +6,9 @@ use Rattle.std.specs.List.{list_all, list_any}
 use Rattle.std.specs.Str.{is_utf8, bytes_eq}
 use Rattle.std.specs.Str.Parse.{digits_value}
 use Rattle.std.specs.Char.{is_ascii_digit, is_ascii_hexdigit}
-use Rattle.markup_rules.specs.Bytes.{is_blank, is_plain, is_name_byte, is_text, is_doctype, is_allowed, starts_name, starts_blank, begins, first_place}
+use Rattle.markup_rules.specs.Bytes.{is_plain, is_name_byte, is_text, is_doctype, is_allowed, starts_name, starts_blank}
 use Rattle.markup_rules.specs.Tree.{Tree, node, trees_of}
+use Rattle.basics.specs.Bytes.{is_blank, begins, first_place}
 
 -- ---- names
 

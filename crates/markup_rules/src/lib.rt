@@ -4,7 +4,7 @@
 #![tactic(auto)]
 
 ghost use Rattle.std.specs.Prelude.{◌≡◌, ◌↔◌, ℕ, List, Some, Ok, Err};
-ghost use Rattle.outside.specs.declared.fault.Spot.{Spot};
+ghost use Rattle.basics.specs.declared.fault.Spot.{Spot};
 ghost use Rattle.markup_rules.specs.Tree.{Tree};
 ghost use Rattle.markup_rules.specs.Outcome.{outcome};
 ghost use Rattle.markup_rules.specs.Faults.{fault_of};

@@ -2,13 +2,10 @@ pub mod Counting
 pub mod Files
 pub mod FirstAt
 pub mod Found
-pub mod Kept
-pub mod Kinds
 pub mod Answered
 pub mod SureSources
 pub mod MemorySources
 pub mod Piece
-pub mod Reading
 pub mod Said
 pub mod Stream
 pub mod Stored

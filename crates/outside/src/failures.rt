@@ -1,7 +1,7 @@
 ghost use Rattle.std.specs.Prelude.{◌≡◌, ◌↔◌, IsTrue, Contains};
 ghost use Rattle.outside.specs.Counting.{next_number};
 
-use crate::list::Seq;
+use basics::Seq;
 
 /// The calls of a form in memory that are to fail, by their numbers from 0, and the number of the next
 /// call. That number stops behind the last one that a list can name.

@@ -4,9 +4,8 @@ ghost use Rattle.outside.specs.Answered.{count_after_read};
 ghost use Rattle.outside.specs.Found.{IsWithin};
 ghost use Rattle.outside.specs.Stream.{IsCounted, GrowsFile};
 
-use crate::fault::Failed;
 use crate::stream::{read_within, write_whole};
-use crate::traits::{Found, Outputs, ReadError, Say, Sources};
+use crate::traits::{Failed, Found, Outputs, ReadError, Say, Sources};
 use std::alloc::Global;
 use std::io::ErrorKind;
 use std::rt::Files;

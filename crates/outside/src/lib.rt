@@ -1,14 +1,11 @@
-//! What stands between the builder and the world: the small types that every crate names, and the
-//! traits through which it reads, writes and speaks, each with its forms over memory and over the
-//! host.
+//! What stands between the builder and the world: the traits through which it reads, writes and speaks,
+//! each with its forms over memory and over the host. The small types that every crate names are handed
+//! on from `basics`.
 #![tactic(auto)]
 
 mod failures;
-mod fault;
 mod host;
-mod kept;
 mod line;
-mod list;
 mod memory_outputs;
 mod memory_say;
 mod memory_sources;
@@ -21,18 +18,15 @@ mod sure_say;
 mod sure_sources;
 #[cfg(test)]
 mod tests;
-mod text;
 mod traits;
 
-pub use fault::{Failed, Fault, Kind, NoMemory, Spot, Stop, stop_at};
+pub use basics::{Fault, Kind, Name, NoMemory, Seq, Spot, Stop, stop_at};
 pub use host::{HostOutputs, HostSay, HostSources};
 pub use line::{Piece, say_all};
-pub use list::Seq;
 pub use memory_outputs::MemoryOutputs;
 pub use memory_say::MemorySay;
 pub use memory_sources::MemorySources;
 pub use sure_outputs::SureOutputs;
 pub use sure_say::SureSay;
 pub use sure_sources::SureSources;
-pub use text::Name;
-pub use traits::{Found, Outputs, ReadError, Say, Sources};
+pub use traits::{Failed, Found, Outputs, ReadError, Say, Sources};

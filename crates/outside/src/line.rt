@@ -2,8 +2,7 @@ ghost use Rattle.std.specs.Prelude.{flat_map};
 ghost use Rattle.outside.specs.Piece.{piece_text};
 ghost use Rattle.outside.specs.Said.{Says};
 
-use crate::fault::Failed;
-use crate::traits::Say;
+use crate::traits::{Failed, Say};
 use itoa::Buffer;
 
 /// A piece of a line that is said. A number is said in decimal digits, with `-` before a negative one.

@@ -6,11 +6,9 @@ ghost use Rattle.outside.specs.MemoryOutputs.{files_of, room_of, begun_of, faili
 ghost use Rattle.outside.specs.Stored.{FitsAt, ExceedsAt, fitting_at, first_half};
 
 use crate::failures::Failures;
-use crate::fault::{Failed, NoMemory};
-use crate::list::Seq;
 use crate::sure_outputs::SureOutputs;
-use crate::text::Name;
-use crate::traits::Outputs;
+use crate::traits::{Failed, Outputs};
+use basics::{Name, NoMemory, Seq};
 use std::alloc::Global;
 
 /// Files in memory, of which each path may hold a number of bytes, and of which chosen calls fail.

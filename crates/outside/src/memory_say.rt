@@ -5,10 +5,9 @@ ghost use Rattle.outside.specs.MemorySay.{said_of, room_of, failing_of, next_of,
 ghost use Rattle.outside.specs.Stored.{fitting, first_half};
 
 use crate::failures::Failures;
-use crate::fault::{Failed, NoMemory};
-use crate::list::Seq;
 use crate::sure_say::SureSay;
-use crate::traits::Say;
+use crate::traits::{Failed, Say};
+use basics::{NoMemory, Seq};
 use std::alloc::Global;
 
 /// Text in memory up to a size, of which chosen calls fail.

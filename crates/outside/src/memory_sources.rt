@@ -5,10 +5,9 @@ ghost use Rattle.outside.specs.Counting.{next_number};
 ghost use Rattle.outside.specs.MemorySources.{files_of, failing_of, next_of, faults_of};
 
 use crate::failures::Failures;
-use crate::list::Seq;
 use crate::sure_sources::SureSources;
-use crate::text::Name;
 use crate::traits::{Found, ReadError, Sources};
+use basics::{Name, Seq};
 use std::alloc::Global;
 
 /// Files in memory of which chosen reads fail.

@@ -1,9 +1,8 @@
 ghost use Rattle.std.specs.Prelude.{◌≡◌, ◌+◌, ◌≤◌, ◌↔◌, [], ◌++◌, length, Some, None, unwrap_or, option_map, IsTrue, IfOk};
 ghost use Rattle.outside.specs.Stored.{fitting};
 
-use crate::fault::NoMemory;
 use crate::room::Room;
-use crate::text::Name;
+use basics::{Name, NoMemory};
 use std::alloc::Global;
 use std::marker::Model;
 

@@ -3,10 +3,8 @@ ghost use Rattle.outside.specs.Files.{content};
 ghost use Rattle.outside.specs.Placed.{place_at, held_in, room_in, paths_of, index_of, empty_place, Writes};
 ghost use Rattle.outside.specs.Stored.{Fits, fitting_in};
 
-use crate::fault::NoMemory;
-use crate::list::Seq;
 use crate::place::Place;
-use crate::text::Name;
+use basics::{Name, NoMemory, Seq};
 use std::alloc::Global;
 use std::marker::Model;
 

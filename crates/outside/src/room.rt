@@ -1,7 +1,7 @@
 ghost use Rattle.std.specs.Prelude.{◌≡◌, ◌+◌, ◌≤◌, ◌↔◌, [], ◌++◌, length, IsTrue, IfOk};
 ghost use Rattle.outside.specs.Stored.{fitting};
 
-use crate::fault::NoMemory;
+use basics::NoMemory;
 use std::alloc::Global;
 use std::marker::Model;
 

@@ -4,8 +4,7 @@ ghost use Rattle.std.specs.Io.KnownBytes.{ReadConsumes, WriteAppends};
 ghost use Rattle.outside.specs.Found.{IsWithin};
 ghost use Rattle.outside.specs.Stream.{FindsKnown, IsCounted, CountsKnown, AppendsFront};
 
-use crate::fault::Failed;
-use crate::traits::{Found, ReadError};
+use crate::traits::{Failed, Found, ReadError};
 use std::alloc::Global;
 use std::io::{ErrorKind, Read, Write};
 

@@ -3,11 +3,9 @@ ghost use Rattle.std.specs.Bool.{OnTrue, OnFalse};
 ghost use Rattle.std.proofs.Props.{props};
 ghost use Rattle.outside.specs.Placed.{paths_of, IsFirst};
 
-use crate::fault::{Failed, NoMemory};
-use crate::list::Seq;
 use crate::places::Places;
-use crate::text::Name;
-use crate::traits::Outputs;
+use crate::traits::{Failed, Outputs};
+use basics::{Name, NoMemory, Seq};
 use std::alloc::Global;
 
 /// Files in memory, of which each path may hold a number of bytes, and which fail only for want of that

@@ -4,9 +4,9 @@ ghost use Rattle.outside.specs.Files.{IsFront};
 ghost use Rattle.outside.specs.Stored.{fitting};
 ghost use Rattle.outside.specs.SureSay.{said_of, room_of, faults_of};
 
-use crate::fault::{Failed, NoMemory};
 use crate::room::Room;
-use crate::traits::Say;
+use crate::traits::{Failed, Say};
+use basics::NoMemory;
 use std::alloc::Global;
 
 /// Text in memory up to a size, which fails only where that is exceeded.

@@ -3,9 +3,8 @@ ghost use Rattle.outside.specs.FirstAt.{first_at};
 ghost use Rattle.outside.specs.Answered.{Answers};
 ghost use Rattle.outside.specs.SureSources.{files_of};
 
-use crate::list::Seq;
-use crate::text::Name;
 use crate::traits::{Found, ReadError, Sources};
+use basics::{Name, Seq};
 use std::alloc::Global;
 
 /// Files in memory that are always read.

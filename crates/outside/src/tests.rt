@@ -14,32 +14,6 @@ fn numbers(alloc: Global, numbers: &[u64]) -> Result<Seq<u64>, AllocError> {
     Ok(Seq::from_vec(Vec::from_slice(alloc, numbers)?))
 }
 
-#[test]
-fn names_and_lists(rt: HostRuntime) -> Result<(), Fail> {
-    let alloc = rt.alloc();
-    let mut names = Seq::new(alloc);
-    let texts = [
-        "",
-        "a",
-        "\u{e9}.glif",
-        "public.default",
-        "xx\u{1f600}yy\u{1f600}zz",
-        "public.defaults",
-        "yy\u{1f600}xx\u{1f600}\u{e9}zz",
-        "glyphs.public.background/A_dieresis.glif",
-    ];
-    for text in texts {
-        let name = Name::from_str(alloc, text)?;
-        assert_eq!(rt; name.as_str(), text);
-        let copy = name.try_copy(alloc)?;
-        assert!(rt; copy == name);
-        names.push(name)?;
-    }
-    assert_eq!(rt; names.len(), texts.len());
-    assert_eq!(rt; names.as_slice()[1].as_str(), "a");
-    Ok(())
-}
-
 /// Three files, two of them with one path.
 fn files(alloc: Global) -> Result<Seq<(Name, Vec<u8>)>, Fail> {
     let mut files = Seq::new(alloc);

@@ -2,7 +2,6 @@ ghost use Rattle.std.specs.Prelude.{◌≡◌, ℕ, ◌+◌, ◌≤◌, ◌<◌,
 ghost use Rattle.outside.specs.Files.{Files, put, add, content, IsFront, HasRisen, Counts, Exceeds};
 ghost use Rattle.outside.specs.Found.{Finds, IsWithin, CountsReads, NeverFails};
 
-use crate::fault::Failed;
 use std::alloc::Global;
 
 /// What a read of one file found.
@@ -24,6 +23,10 @@ pub enum ReadError {
     /// Memory ran out.
     NoMemory,
 }
+
+/// A device failed, or had no room.
+#[derive(Clone, Copy, Debug, PartialEq, Eq)]
+pub struct Failed;
 
 /// Files to read from.
 ///

@@ -7,7 +7,7 @@ ghost use Rattle.packed.specs.Classes.{same_delta_class};
 ghost use Rattle.packed.specs.FirstRun.{BeginsWithRun};
 
 use be_bytes::{put_i16, put_u8};
-use outside::NoMemory;
+use basics::NoMemory;
 use std::alloc::Global;
 use variation_rules::DeltaClass;
 

@@ -7,7 +7,7 @@ ghost use Rattle.packed.specs.Differences.{AddsDifferences, count_bytes};
 ghost use Rattle.packed.specs.FirstRun.{BeginsWithRun};
 
 use be_bytes::{put_u8, put_u16};
-use outside::NoMemory;
+use basics::NoMemory;
 use std::alloc::Global;
 use variation_rules::PointClass;
 

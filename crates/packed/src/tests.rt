@@ -3,7 +3,7 @@ ghost use Rattle.std.specs.Int.{w16};
 ghost use Rattle.variation_rules.specs.PackedPoints.{RisesWithin};
 
 use crate::{one_spelling, pack_deltas, pack_points};
-use outside::NoMemory;
+use basics::NoMemory;
 use std::alloc::Global;
 use std::test::*;
 

@@ -1,10 +1,10 @@
 -- What an answer that is exact says of the tree.
 use Rattle.std.proofs.Common.{◌≡◌, Ok, Err, sym, ◌∙◌}
 use Rattle.std.specs.Prelude.{Result, IfOk, IfErr}
-use Rattle.outside.specs.declared.fault.Spot.{Spot}
-use Rattle.outside.specs.declared.fault.Stop.{Stop}
-use Rattle.outside.specs.declared.fault.Stop.TheVariants.{At, NoMemory}
-use Rattle.outside.specs.Reading.{Gives}
+use Rattle.basics.specs.declared.fault.Spot.{Spot}
+use Rattle.basics.specs.declared.fault.Stop.{Stop}
+use Rattle.basics.specs.declared.fault.Stop.TheVariants.{At, NoMemory}
+use Rattle.basics.specs.Reading.{Gives}
 use Rattle.markup_rules.specs.Tree.{Tree}
 use Rattle.plist.specs.declared.value.Value.{Value}
 use Rattle.plist.specs.Faults.{IsFault, IsFirstFault}

@@ -4,8 +4,8 @@ use Rattle.std.specs.Prelude.{codes}
 use Rattle.std.specs.Str.{bytes_eq}
 use Rattle.std.proofs.lemmas.Slice.Eq.{bytes_eq-Decides}
 use Rattle.std.proofs.lemmas.Bool.{false_from_ne_true}
-use Rattle.outside.specs.Reading.{◌>>=◌}
-use Rattle.outside.specs.declared.fault.Spot.{Spot}
+use Rattle.basics.specs.Reading.{◌>>=◌}
+use Rattle.basics.specs.declared.fault.Spot.{Spot}
 use Rattle.markup_rules.specs.Tree.{Tree, trees_of, children_of, name_of, text_of}
 use Rattle.plist.specs.declared.form.Form.{Form}
 use Rattle.plist.specs.declared.form.Form.TheVariants.{Text, Number, True, False, Array, Dict, Unread, Unknown}

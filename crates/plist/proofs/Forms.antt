@@ -1,7 +1,7 @@
 -- The value of an element, by the element's form.
 use Rattle.std.proofs.Common.{◌≡◌, ℕ, List, Option, Some, None, refl, ap, sym}
 use Rattle.std.specs.Prelude.{Result}
-use Rattle.outside.specs.declared.fault.Spot.{Spot}
+use Rattle.basics.specs.declared.fault.Spot.{Spot}
 use Rattle.markup_rules.specs.Tree.{Tree, node, Trees, no_trees, and_trees, trees_of, list_of, children_of, name_of}
 use Rattle.plist.specs.Reading.{form_of, value_by, value_at, items_of, entries_behind, entries_of}
 use Rattle.plist.specs.Values.{Entry}

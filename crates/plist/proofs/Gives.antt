@@ -3,8 +3,8 @@ use Rattle.std.proofs.Common.{◌≡◌, ℕ, true, false, cond, List, [], ◌�
 use Rattle.std.specs.Prelude.{Result, codes}
 use Rattle.std.specs.Str.{bytes_eq}
 use Rattle.std.proofs.lemmas.Slice.Eq.{bytes_eq-Decides}
-use Rattle.outside.specs.Reading.{◌>>=◌}
-use Rattle.outside.specs.declared.fault.Spot.{Spot}
+use Rattle.basics.specs.Reading.{◌>>=◌}
+use Rattle.basics.specs.declared.fault.Spot.{Spot}
 use Rattle.markup_rules.specs.Tree.{Tree, trees_of, children_of, name_of, text_of}
 use Rattle.plist.specs.Reading.{fault, form_of, nothing, own_text, key_of, array_by, dict_by, value_by, value_at, items_of, entries_of, only, value_of}
 use Rattle.plist.specs.Syntax.{IsLeaf, IsValue, a_string, an_integer, a_real, a_true, a_false, an_array, a_dict, a_date, a_data, AreValues, no_values, and_value, AreEntries, none, and_pair, IsPropertyList}

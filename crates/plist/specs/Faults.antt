@@ -1,9 +1,9 @@
 -- The first fault of a tree that is no property list, by what is written: the element that may not stand at its
 -- place, or the one that lacks a child. Of what an element has in it, all before the fault is right.
 use Rattle.std.specs.Prelude.{◌≡◌, ◌≢◌, ℕ, List, [], ◌∷◌, codes}
-use Rattle.outside.specs.declared.fault.Spot.{Spot}
-use Rattle.outside.specs.declared.fault.Stop.{Stop}
-use Rattle.outside.specs.declared.fault.Stop.TheVariants.{At, NoMemory}
+use Rattle.basics.specs.declared.fault.Spot.{Spot}
+use Rattle.basics.specs.declared.fault.Stop.{Stop}
+use Rattle.basics.specs.declared.fault.Stop.TheVariants.{At, NoMemory}
 use Rattle.markup_rules.specs.Tree.{Tree, name_of, children_of}
 use Rattle.plist.specs.Reading.{spot_at}
 use Rattle.plist.specs.Syntax.{IsLeaf, IsValue}

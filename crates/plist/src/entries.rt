@@ -2,7 +2,7 @@ ghost use Rattle.std.specs.Prelude.{◌≡◌, IfOk};
 ghost use Rattle.plist.specs.Entries.{firsts};
 
 use crate::value::Value;
-use outside::{Name, NoMemory};
+use basics::{Name, NoMemory};
 use std::alloc::Global;
 use std::collections::BTreeSet;
 

@@ -1,6 +1,6 @@
 ghost use Rattle.std.specs.Prelude.{◌≡◌, ◌↔◌, ℕ, List, Ok, Err};
 ghost use Rattle.markup_rules.specs.Tree.{Tree};
-ghost use Rattle.outside.specs.declared.fault.Spot.{Spot};
+ghost use Rattle.basics.specs.declared.fault.Spot.{Spot};
 ghost use Rattle.plist.specs.Entries.{firsts};
 ghost use Rattle.plist.specs.Faults.{IsFault};
 ghost use Rattle.plist.specs.Reading.{value_of};

@@ -1,8 +1,8 @@
 ghost use Rattle.std.specs.Prelude.{◌≡◌, Err, IfErr, IfOk, List, Ok, map};
-ghost use Rattle.outside.specs.Reading.{Gives, IsStop, each};
+ghost use Rattle.basics.specs.Reading.{Gives, IsStop, each};
 ghost use Rattle.markup_rules.specs.Tree.{trees_of};
 ghost use Rattle.markup.specs.Plain.{plain};
-ghost use Rattle.outside.specs.declared.fault.Spot.{Spot};
+ghost use Rattle.basics.specs.declared.fault.Spot.{Spot};
 ghost use Rattle.plist.specs.Faults.{IsFault, IsFirstFault};
 ghost use Rattle.plist.specs.Reading as rules;
 ghost use Rattle.plist.specs.Reading.{value_at, value_of};
@@ -14,7 +14,7 @@ use crate::entries::first_of_each;
 use crate::form::{Form, form_of};
 use crate::value::Value;
 use markup::Element;
-use outside::{Kind, Name, Stop, stop_at};
+use basics::{Kind, Name, Stop, stop_at};
 use std::alloc::Global;
 
 /// The stop at an element that may not stand at its place, or that lacks a child.

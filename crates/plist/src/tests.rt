@@ -1,5 +1,5 @@
 use crate::{Value, read};
-use outside::{Kind, Stop};
+use basics::{Kind, Stop};
 use std::alloc::{AllocError, Global};
 use std::fmt::Write;
 use std::test::Fail;

@@ -2,7 +2,7 @@ ghost use Rattle.std.specs.Prelude.{◌≡◌, map, option_map};
 ghost use Rattle.plist.specs.Values as plain;
 ghost use Rattle.plist.specs.Values.{plain_entry, plain_value};
 
-use outside::Name;
+use basics::Name;
 
 /// A value of a property list (Apple's in XML, PropertyList-1.0.dtd). Texts and keys have no bound but the file's;
 /// arrays and dictionaries stand at most 62 in one another, by the depth of a source text.

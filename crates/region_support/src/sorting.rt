@@ -8,7 +8,7 @@ ghost use Rattle.region_support.specs.Sorting.{is_same_place, first_repeat, mode
 
 use crate::Location;
 use crate::key::key_of;
-use outside::{NoMemory, Seq};
+use basics::{NoMemory, Seq};
 use std::alloc::Global;
 
 /// Why masters can't be put in order.

@@ -10,7 +10,7 @@ use crate::first::first_region;
 use crate::{Location, Support};
 use arrayvec::ArrayVec;
 use fixpoint::Fix;
-use outside::{NoMemory, Seq};
+use basics::{NoMemory, Seq};
 use std::alloc::Global;
 use variation_rules::Triple;
 

@@ -4,7 +4,7 @@ ghost use Rattle.arrayvec.specs.ArrayVec.{array_vec_len};
 use crate::{Location, ModelStop, Support, Triple, boxes, in_order, order, scalar};
 use arrayvec::ArrayVec;
 use fixpoint::Fix;
-use outside::{NoMemory, Seq};
+use basics::{NoMemory, Seq};
 use std::alloc::Global;
 
 type Axis = (i32, i32, i32);

@@ -9,10 +9,11 @@ use Rattle.variation_rules.specs.declared.runs.DeltaClass.{DeltaClass}
 use Rattle.variation_rules.specs.declared.runs.DeltaClass.TheVariants.{Zeros, Bytes, Words}
 use Rattle.variation_rules.specs.Fields.{signed_word}
 use Rattle.variation_rules.specs.PackedDeltas.{DeltaRun, delta_bytes, HoldsDelta, IsDeltaRun, AreDeltaRuns, ReadsDeltas}
-use Rattle.variation_rules.specs.Decoding.{◌>>=◌, many, byte_at}
+use Rattle.variation_rules.specs.Decoding.{many, byte_at}
 use Rattle.variation_rules.specs.DecodingDeltas.{delta_control, delta_at, delta_run_at, deltas_at}
 use Rattle.variation_rules.proofs.DecodingReaders.{IsReader, Then, Count, Many, Runs, joined, then_reads, done_reads, unless_reads, given_reads, same_reads, many_reads, filled_reads}
 use Rattle.variation_rules.proofs.DecodingFields.{Spells, one_byte, signed_byte, byte_reads, signed_byte_reads, signed_word_reads, spelled_many, many_spelled}
+use Rattle.basics.specs.Optional.{◌>>=◌}
 
 -- ---- one value
 

@@ -11,16 +11,18 @@ use Rattle.variation_rules.specs.Fields.{word}
 use Rattle.variation_rules.specs.PackedDeltas.{ReadsDeltas}
 use Rattle.variation_rules.specs.PackedPoints.{ReadsPoints}
 use Rattle.variation_rules.specs.TupleVariations.{HasSharedPoints, shared_bits, IsGlyphData, MeansTuples}
-use Rattle.variation_rules.specs.Decoding.{◌>>=◌, many, word_at}
+use Rattle.variation_rules.specs.Decoding.{many, word_at}
 use Rattle.variation_rules.specs.DecodingPoints.{points_at}
 use Rattle.variation_rules.specs.DecodingTuples.{has_bits, header_at, shared_points_at, front_at, headers_at, tuples_at, glyph_data_at, tuples_of}
 use Rattle.variation_rules.proofs.DecodingBits.{bit, bit_below, low_twelve, digit_is, bits_are, no_middle_bits, middle_bits_are_none}
-use Rattle.variation_rules.proofs.DecodingSteps.{bind_some, when_some, either_some}
+use Rattle.variation_rules.proofs.DecodingSteps.{when_some, either_some}
 use Rattle.variation_rules.proofs.DecodingReaders.{IsBytes, whole_stands, whole_again, Takes, IsReader, Then, Is, Made, Many, Count, then_reads, done_reads, made_reads, unless_reads, many_reads}
 use Rattle.variation_rules.proofs.DecodingFields.{Spells, word_reads}
 use Rattle.variation_rules.proofs.DecodingPointRuns.{points_read}
 use Rattle.variation_rules.proofs.DecodingHeaders.{HeaderText, header_reads}
 use Rattle.variation_rules.proofs.DecodingTupleParts.{PartsText, parts_read, are_tuples, heads_of}
+use Rattle.basics.specs.Optional.{◌>>=◌}
+use Rattle.basics.proofs.Optional.{bind_some}
 
 abbrev Words : List ℕ → ℕ → Type 0
 Words = Spells word (λ n. n < 2 ^ 16)

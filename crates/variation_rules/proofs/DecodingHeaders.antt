@@ -10,12 +10,14 @@ use Rattle.variation_rules.specs.declared.header.Head.{Head}
 use Rattle.variation_rules.specs.declared.region.Triple.{Triple}
 use Rattle.variation_rules.specs.Fields.{word, signed_word}
 use Rattle.variation_rules.specs.TupleVariations.{Peak, embedded, shared, Ends, Header, peak_bits, intermediate_bits, private_bits, tuple_index, peak_bytes, intermediate_bytes, header_bytes, IsTuple, PeaksAt, plain_triple, triples, region_of, AreEnds, HasRegion}
-use Rattle.variation_rules.specs.Decoding.{◌>>=◌, word_at, signed_word_at}
+use Rattle.variation_rules.specs.Decoding.{word_at, signed_word_at}
 use Rattle.variation_rules.specs.DecodingTuples.{has_bits, coordinates_at, is_coordinate, is_tuple, shared_peak, peak_at, region_at, header_at}
 use Rattle.variation_rules.proofs.DecodingBits.{bit, bit_below, low_twelve, no_bits, none_of_no_bits, digit_is, bits_are}
-use Rattle.variation_rules.proofs.DecodingSteps.{bind_some, when_some}
+use Rattle.variation_rules.proofs.DecodingSteps.{when_some}
 use Rattle.variation_rules.proofs.DecodingReaders.{IsReader, Then, Is, Made, Many, Count, then_reads, done_reads, made_reads, unless_reads, either_reads, given_reads, same_reads, many_reads}
 use Rattle.variation_rules.proofs.DecodingFields.{Spells, word_reads, signed_word_reads, spelled_many, many_spelled}
+use Rattle.basics.specs.Optional.{◌>>=◌}
+use Rattle.basics.proofs.Optional.{bind_some}
 
 -- ---- the bits of the tupleIndex
 

@@ -4,8 +4,9 @@ use Rattle.std.proofs.lemmas.List.{append-nil}
 use Rattle.std.proofs.lemmas.Option.{same_Some}
 use Rattle.variation_rules.specs.declared.refusal.Refusal.{Refusal}
 use Rattle.variation_rules.specs.declared.refusal.Refusal.TheVariants.{NoReading, NoMemory}
-use Rattle.variation_rules.specs.Decoding.{◌>>=◌, Fails, many, filled_by, filled}
-use Rattle.variation_rules.proofs.DecodingSteps.{bind_some, bind_same}
+use Rattle.variation_rules.specs.Decoding.{Fails, many, filled_by, filled}
+use Rattle.basics.specs.Optional.{◌>>=◌}
+use Rattle.basics.proofs.Optional.{bind_some, bind_same}
 
 -- what was read before, in front of what is still read
 abbrev pub with_front : {A : Type 0} → List A → Option (List A × List ℕ) → Option (List A × List ℕ)

@@ -5,9 +5,10 @@ use Rattle.variation_rules.specs.declared.header.Head.{Head}
 use Rattle.variation_rules.specs.declared.refusal.Refusal.{Refusal}
 use Rattle.variation_rules.specs.declared.refusal.Refusal.TheVariants.{NoReading, NoMemory}
 use Rattle.variation_rules.specs.declared.tuple.TupleVariation.{TupleVariation}
-use Rattle.variation_rules.specs.Decoding.{◌>>=◌, Fails}
+use Rattle.variation_rules.specs.Decoding.{Fails}
 use Rattle.variation_rules.specs.DecodingTuples.{tuple_at, tuples_at}
 use Rattle.variation_rules.proofs.DecodingLoops.{with_front, regroup}
+use Rattle.basics.specs.Optional.{◌>>=◌}
 
 module _ (total : ℕ) (shared : Option (List ℕ)) (heads : List Head) where
   step : (i : ℕ) (head : Head) (bytes : List ℕ) → i < length heads → head ≡ get_or heads i head

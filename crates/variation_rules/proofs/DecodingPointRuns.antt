@@ -11,11 +11,13 @@ use Rattle.variation_rules.specs.declared.runs.PointClass.{PointClass}
 use Rattle.variation_rules.specs.declared.runs.PointClass.TheVariants.{Bytes, Words}
 use Rattle.variation_rules.specs.Fields.{word}
 use Rattle.variation_rules.specs.PackedPoints.{PointRun, point_bytes, HoldsDifference, IsPointRun, IsCount, points_after, RisesWithin, count_from, AreListedPoints, ReadsPoints}
-use Rattle.variation_rules.specs.Decoding.{◌>>=◌, many, byte_at}
+use Rattle.variation_rules.specs.Decoding.{many, byte_at}
 use Rattle.variation_rules.specs.DecodingPoints.{point_control, difference_at, difference_run_at, differences_at, count_at, rising, listed_points_at, points_at}
-use Rattle.variation_rules.proofs.DecodingSteps.{bind_some, unless_some, either_some}
+use Rattle.variation_rules.proofs.DecodingSteps.{unless_some, either_some}
 use Rattle.variation_rules.proofs.DecodingReaders.{IsBytes, Takes, IsReader, Then, Is, Made, Count, Many, Runs, joined, then_reads, done_reads, made_reads, unless_reads, either_reads, given_reads, same_reads, many_reads, filled_reads}
 use Rattle.variation_rules.proofs.DecodingFields.{Spells, one_byte, byte_reads, word_reads, spelled_many, many_spelled}
+use Rattle.basics.specs.Optional.{◌>>=◌}
+use Rattle.basics.proofs.Optional.{bind_some}
 
 -- ---- one difference
 

@@ -5,8 +5,10 @@ use Rattle.std.proofs.Common.{◌≡◌, ℕ, zero, suc, ◌+◌, ◌-◌, ◌<�
 use Rattle.std.proofs.lemmas.List.{append-nil, nil_from_length}
 use Rattle.std.proofs.lemmas.Option.{same_Some}
 use Rattle.std.specs.List.{flat_map}
-use Rattle.variation_rules.specs.Decoding.{◌>>=◌, many, filled_by}
-use Rattle.variation_rules.proofs.DecodingSteps.{bind_some, unless_some}
+use Rattle.variation_rules.specs.Decoding.{many, filled_by}
+use Rattle.variation_rules.proofs.DecodingSteps.{unless_some}
+use Rattle.basics.specs.Optional.{◌>>=◌}
+use Rattle.basics.proofs.Optional.{bind_some}
 
 -- each is a byte
 abbrev pub IsBytes : List ℕ → Type 0

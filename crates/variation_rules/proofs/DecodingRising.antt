@@ -2,9 +2,9 @@
 use Rattle.std.proofs.Common.{◌≡◌, ℕ, zero, suc, ◌+◌, ◌≤◌, ◌<◌, true, false, ltb, leb, ◌||◌, List, [], ◌∷◌, ◌++◌, length, get_or, drop, Option, Some, None, refl, sym, ap, ◌∙◌, append_assoc, add-zero, add-one, zero-add, arith}
 use Rattle.std.proofs.lemmas.Bool.{le-ltb, lt-leb, or_from}
 use Rattle.std.proofs.lemmas.List.{append-nil, at_drop_more, at_drop_all}
-use Rattle.variation_rules.specs.Decoding.{◌>>=◌}
 use Rattle.variation_rules.specs.PackedPoints.{count_from}
 use Rattle.variation_rules.specs.DecodingPoints.{rising}
+use Rattle.basics.specs.Optional.{◌>>=◌}
 
 -- what was found before, in front of what is still found
 abbrev pub behind : {A : Type 0} → List A → Option (List A) → Option (List A)

@@ -1,12 +1,14 @@
 -- Each run that is read holds some values.
 use Rattle.std.proofs.Common.{◌≡◌, ℕ, ◌<◌, cond, ltb, Some, None, arith}
 use Rattle.std.proofs.lemmas.Bool.Decides.{nat_tests}
-use Rattle.variation_rules.specs.Decoding.{◌>>=◌, many, byte_at}
+use Rattle.variation_rules.specs.Decoding.{many, byte_at}
 use Rattle.variation_rules.specs.DecodingDeltas.{delta_control, delta_at, delta_run_at}
 use Rattle.variation_rules.specs.DecodingPoints.{point_control, difference_at, difference_run_at}
 use Rattle.variation_rules.specs.declared.runs.DeltaClass.{DeltaClass}
-use Rattle.variation_rules.proofs.DecodingSteps.{bind_some, unless_some}
+use Rattle.variation_rules.proofs.DecodingSteps.{unless_some}
 use Rattle.variation_rules.proofs.DecodingLoops.{HoldSome, many_length}
+use Rattle.basics.specs.Optional.{◌>>=◌}
+use Rattle.basics.proofs.Optional.{bind_some}
 
 delta_control_some : (byte : ℕ) (control : DeltaClass × ℕ) → delta_control byte ≡ Some control → 0 < control.1
 delta_control_some byte control e = grind (arith, nat_tests)

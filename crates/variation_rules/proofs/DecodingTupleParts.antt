@@ -10,14 +10,15 @@ use Rattle.variation_rules.specs.declared.tuple.TupleVariation.{TupleVariation}
 use Rattle.variation_rules.specs.PackedDeltas.{ReadsDeltas}
 use Rattle.variation_rules.specs.PackedPoints.{ReadsPoints}
 use Rattle.variation_rules.specs.TupleVariations.{header_bytes, HasRegion, HasPoints, IsPart, AreTuples}
-use Rattle.variation_rules.specs.Decoding.{◌>>=◌}
 use Rattle.variation_rules.specs.DecodingDeltas.{deltas_at}
 use Rattle.variation_rules.specs.DecodingTuples.{tuple_points_at, pairs, part_at, tuple_at, tuples_at}
-use Rattle.variation_rules.proofs.DecodingSteps.{bind_some, unless_some, when_some}
+use Rattle.variation_rules.proofs.DecodingSteps.{unless_some, when_some}
 use Rattle.variation_rules.proofs.DecodingReaders.{IsBytes, IsBytes-front, whole_stands, whole_again, Takes, IsReader, Then, Is, Made, Many, then_reads, done_reads, made_reads, same_reads}
 use Rattle.variation_rules.proofs.DecodingDeltaRuns.{deltas_read}
 use Rattle.variation_rules.proofs.DecodingPointRuns.{points_read}
 use Rattle.variation_rules.proofs.DecodingHeaders.{HeaderText}
+use Rattle.basics.specs.Optional.{◌>>=◌}
+use Rattle.basics.proofs.Optional.{bind_some}
 
 -- ---- the points of a tuple
 

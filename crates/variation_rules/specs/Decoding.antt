@@ -5,12 +5,7 @@ use Rattle.std.specs.Prelude.{◌≡◌, ℕ, zero, suc, ℤ, ◌-◌, List, [],
 use Rattle.std.specs.Int.{w8, w16, from_be_bytes, cast_signed}
 use Rattle.variation_rules.specs.declared.refusal.Refusal.{Refusal}
 use Rattle.variation_rules.specs.declared.refusal.Refusal.TheVariants.{NoReading, NoMemory}
-
--- what the second step makes of the first one's value, if there is one
-infixl 10 ◌>>=◌
-abbrev pub ◌>>=◌ : {A B : Type 0} → Option A → (A → Option B) → Option B
-(Some x) >>= f = f x
-None >>= f = None
+use Rattle.basics.specs.Optional.{◌>>=◌}
 
 -- a call that refuses for want of a reading says that there is none; want of memory is free
 abbrev pub Fails : {Y : Type 0} → Refusal → Option Y → Type 0

@@ -1,8 +1,9 @@
 -- Reading packed deltas, so many values of them.
 use Rattle.std.specs.Prelude.{ℕ, ℤ, pos, ◌+◌, ◌-◌, List, Option, Some, None, if◌then◌else◌, nat_lt}
-use Rattle.variation_rules.specs.Decoding.{◌>>=◌, many, filled, byte_at, signed_byte_at, signed_word_at}
+use Rattle.variation_rules.specs.Decoding.{many, filled, byte_at, signed_byte_at, signed_word_at}
 use Rattle.variation_rules.specs.declared.runs.DeltaClass.{DeltaClass}
 use Rattle.variation_rules.specs.declared.runs.DeltaClass.TheVariants.{Zeros, Bytes, Words}
+use Rattle.basics.specs.Optional.{◌>>=◌}
 
 -- the class of a run and the number of its values, by the control byte; no run has both high bits set
 abbrev pub delta_control : ℕ → Option (DeltaClass × ℕ)

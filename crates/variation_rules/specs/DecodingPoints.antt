@@ -1,10 +1,11 @@
 -- Reading packed point numbers, for a glyph of so many points.
 use Rattle.std.specs.Prelude.{ℕ, ◌+◌, ◌-◌, List, [], ◌∷◌, Option, Some, None, if◌then◌else◌, nat_lt, nat_le, nat_eq, ◌||◌}
 use Rattle.std.specs.Int.{w16, from_be_bytes}
-use Rattle.variation_rules.specs.Decoding.{◌>>=◌, many, filled, byte_at, word_at}
+use Rattle.variation_rules.specs.Decoding.{many, filled, byte_at, word_at}
 use Rattle.variation_rules.specs.PackedPoints.{count_from}
 use Rattle.variation_rules.specs.declared.runs.PointClass.{PointClass}
 use Rattle.variation_rules.specs.declared.runs.PointClass.TheVariants.{Bytes, Words}
+use Rattle.basics.specs.Optional.{◌>>=◌}
 
 -- the class of a run and the number of its differences, by the control byte
 abbrev pub point_control : ℕ → PointClass × ℕ

@@ -2,7 +2,7 @@
 use Rattle.std.specs.Prelude.{ℕ, ℤ, pos, negsuc, ◌+◌, bit_and, List, [], ◌∷◌, length, map, take, drop, Option, Some, None, Bool, true, false, if◌then◌else◌, nat_lt, nat_eq, int_le, not, ◌&&◌, slice_get}
 use Rattle.std.specs.List.{list_all}
 use Rattle.fixpoint.specs.declared.plane.Pair.{Pair}
-use Rattle.variation_rules.specs.Decoding.{◌>>=◌, many, word_at, signed_word_at}
+use Rattle.variation_rules.specs.Decoding.{many, word_at, signed_word_at}
 use Rattle.variation_rules.specs.DecodingDeltas.{deltas_at}
 use Rattle.variation_rules.specs.DecodingPoints.{points_at}
 use Rattle.variation_rules.specs.TupleVariations.{plain_triple, triples}
@@ -10,6 +10,7 @@ use Rattle.variation_rules.specs.declared.header.Head.{Head}
 use Rattle.variation_rules.specs.declared.reader.Front.{Front}
 use Rattle.variation_rules.specs.declared.region.Triple.{Triple}
 use Rattle.variation_rules.specs.declared.tuple.TupleVariation.{TupleVariation}
+use Rattle.basics.specs.Optional.{◌>>=◌}
 
 -- some bit of the mask is set in the word
 abbrev pub has_bits : ℕ → ℕ → Bool

@@ -11,7 +11,7 @@ use crate::filling::{STILL, filled, named};
 use crate::scalars::scalar;
 use crate::tuple::TupleVariation;
 use fixpoint::{Fix, Pair};
-use outside::{NoMemory, Seq};
+use basics::{NoMemory, Seq};
 use std::alloc::Global;
 
 /// An outline point at a location, in 65536ths of a font unit.

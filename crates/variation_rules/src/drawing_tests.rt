@@ -4,7 +4,7 @@ ghost use Rattle.variation_rules.specs.declared.tuple.TupleVariation.{TupleVaria
 
 use crate::{DrawnPoint, Reference, Triple, TupleVariation, draw, filled, inferred_delta, scalar};
 use fixpoint::{Fix, Pair};
-use outside::{NoMemory, Seq};
+use basics::{NoMemory, Seq};
 use std::alloc::Global;
 use std::test::Fail;
 

@@ -3,7 +3,7 @@ ghost use Rattle.variation_rules.specs.DecodingTuples.{coordinates_at};
 
 use crate::refusal::Refusal;
 use fixpoint::Fix;
-use outside::Seq;
+use basics::Seq;
 use std::alloc::Global;
 
 /// The `uint8` at the front, and the bytes behind it.

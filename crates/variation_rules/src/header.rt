@@ -8,7 +8,7 @@ use crate::fields::{coordinates_at, word_at};
 use crate::refusal::Refusal;
 use crate::region::Triple;
 use fixpoint::Fix;
-use outside::Seq;
+use basics::Seq;
 use std::alloc::Global;
 
 /// The bit of a tupleIndex that says that the peak stands in the header.

@@ -7,7 +7,7 @@ ghost use Rattle.variation_rules.specs.PackedPoints.{count_from};
 use crate::fields::{byte_at, signed_byte_at, signed_word_at, word_at};
 use crate::refusal::Refusal;
 use crate::runs::{DeltaClass, PointClass};
-use outside::Seq;
+use basics::Seq;
 use std::alloc::Global;
 
 /// The class of a run of deltas and how many values it holds, by its control byte.

@@ -10,7 +10,7 @@ use crate::packed::{deltas_at, points_at};
 use crate::refusal::Refusal;
 use crate::tuple::TupleVariation;
 use fixpoint::{Fix, Pair};
-use outside::{NoMemory, Seq};
+use basics::{NoMemory, Seq};
 use std::alloc::Global;
 
 /// The bit of the count word that says that shared points follow the headers.

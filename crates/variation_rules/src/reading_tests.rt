@@ -1,7 +1,7 @@
 use crate::read_tuples;
 use crate::tuple::TupleVariation;
 use fixpoint::Fix;
-use outside::{NoMemory, Seq};
+use basics::{NoMemory, Seq};
 use std::alloc::Global;
 use std::test::*;
 

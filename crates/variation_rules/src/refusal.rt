@@ -31,12 +31,12 @@ impl<T: Drop> From<AllocFailed<T>> for Refusal {
     }
 }
 
-impl From<outside::NoMemory> for Refusal {
+impl From<basics::NoMemory> for Refusal {
     ghost use Rattle.variation_rules.specs.declared.refusal.Refusal.TheVariants.{NoMemory};
 
     ghost from_gives = { λ _ refusal. refusal ≡ NoMemory };
 
-    fn from(_: outside::NoMemory) -> Refusal {
+    fn from(_: basics::NoMemory) -> Refusal {
         Refusal::NoMemory
     }
 }

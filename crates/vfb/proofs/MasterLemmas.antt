@@ -8,7 +8,7 @@ use Rattle.region_support.specs.Sorting.{IsOrder}
 use Rattle.glif.specs.Shapes.{contour_kinds}
 use Rattle.delta_solve.specs.GlyphModels.{default_of}
 use Rattle.glif.specs.Limits.{IsWithinLimits}
-use Rattle.outside.specs.Reading.{◌>>=◌}
+use Rattle.basics.specs.Reading.{◌>>=◌}
 use Rattle.region_support.specs.Sorting.{place_at, places_at}
 use Rattle.region_support.specs.Regions.{AreNormalisedPlaces}
 use Rattle.region_support.proofs.PlaceLemmas.{number_below, order_length, ordered_masters, ordered_normalised}

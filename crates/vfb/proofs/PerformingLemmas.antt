@@ -2,7 +2,7 @@
 use Rattle.std.proofs.Common.{◌≡◌, ℕ, ◌+◌, ◌<◌, List, [], ◌++◌, length, codes, Bor, Option, Result, Ok, Err, ◌∷◌, refl, inl, sym, ◌∙◌, ap, subst, inr, append_assoc, append-nil}
 use Rattle.std.proofs.lemmas.List.{append_cancel_left}
 use Rattle.outside.specs.Files.{Files, put, IsFront}
-use Rattle.outside.specs.declared.fault.Fault.{Fault}
+use Rattle.basics.specs.declared.fault.Fault.{Fault}
 use Rattle.vfb.specs.Command.{Placed, Tuples}
 use Rattle.vfb.specs.Stops.{StopsAt, StopsBy, Names}
 use Rattle.vfb.specs.Ending.{ending_of}

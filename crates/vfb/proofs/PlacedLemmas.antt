@@ -9,9 +9,10 @@ use Rattle.std.proofs.lemmas.List.Splits.{length-slice_split}
 use Rattle.fixpoint.specs.DecimalText.{whole_of}
 use Rattle.fixpoint.specs.declared.decimal.NumberFault.{NumberFault}
 use Rattle.region_support.specs.Regions.{IsNormalised, AreNormalisedPlaces}
-use Rattle.vfb.specs.Command.{◌>>=◌, each_of, coordinate_by, coordinate_of, place_of, placed_of, are_on_axes, drawings_named, command_of, Placed, Tuples}
+use Rattle.vfb.specs.Command.{coordinate_by, coordinate_of, place_of, placed_of, are_on_axes, drawings_named, command_of, Placed, Tuples}
 use Rattle.vfb.specs.Masters.{places_of_drawings}
 use Rattle.vfb.specs.Making.{ArePlaced}
+use Rattle.basics.specs.Optional.{◌>>=◌, each}
 
 -- ---- each item gives such a value
 
@@ -21,18 +22,18 @@ both P None rest here later = tt
 both P (Some y) None here later = tt
 both P (Some y) (Some ys) here later = (here, later)
 
-each_such : {A B : Type 0} (P : B → Type 0) (f : A → Option B) → ((x : A) → IfSome (f x) P) → (xs : List A) → IfSome (each_of f xs) (AllByRecursion P)
+each_such : {A B : Type 0} (P : B → Type 0) (f : A → Option B) → ((x : A) → IfSome (f x) P) → (xs : List A) → IfSome (each f xs) (AllByRecursion P)
 each_such P f such [] = tt
-each_such P f such (x ∷ xs) = both P (f x) (each_of f xs) (such x) (each_such P f such xs)
+each_such P f such (x ∷ xs) = both P (f x) (each f xs) (such x) (each_such P f such xs)
 
 one_more : {B : Type 0} (n : ℕ) (first : Option B) (rest : Option (List B)) → IfSome rest (λ ys. length ys ≡ n) → IfSome (first >>= λ y. rest >>= λ ys. Some (y ∷ ys)) (λ ys. length ys ≡ suc n)
 one_more n None rest count = tt
 one_more n (Some y) None count = tt
 one_more n (Some y) (Some ys) count = ap suc count
 
-each_count : {A B : Type 0} (f : A → Option B) (xs : List A) → IfSome (each_of f xs) (λ ys. length ys ≡ length xs)
+each_count : {A B : Type 0} (f : A → Option B) (xs : List A) → IfSome (each f xs) (λ ys. length ys ≡ length xs)
 each_count f [] = refl
-each_count f (x ∷ xs) = one_more (length xs) (f x) (each_of f xs) (each_count f xs)
+each_count f (x ∷ xs) = one_more (length xs) (f x) (each f xs) (each_count f xs)
 
 -- ---- coordinates and places
 
@@ -72,8 +73,8 @@ place_is : (text : List ℕ) → IfSome (place_of text) IsPlace
 unfolding place_of
 place_is text =
     let parts = slice_split (λ b. b == 44) text in
-    place_if (each_of coordinate_of parts) (count_by (λ b. b == 44) text)
-    (subst (λ n. IfSome (each_of coordinate_of parts) (λ at. length at ≡ n)) (length-slice_split (λ b. b == 44) text ∙ omega arith) (each_count coordinate_of parts))
+    place_if (each coordinate_of parts) (count_by (λ b. b == 44) text)
+    (subst (λ n. IfSome (each coordinate_of parts) (λ at. length at ≡ n)) (length-slice_split (λ b. b == 44) text ∙ omega arith) (each_count coordinate_of parts))
     (each_such IsNormalised coordinate_of coordinate_normalised parts)
 
 -- ---- drawings
@@ -142,7 +143,7 @@ command_is [] = tt
 command_is (program ∷ []) = tt
 command_is (program ∷ name ∷ []) = tt
 command_is (program ∷ name ∷ out ∷ words) =
-    if_proper (bytes_eq name (codes "tuples")) _ (tuples_if out (drawings_named words) (named_if (each_of placed_of words) (each_such IsPlaced placed_of placed_is words)))
+    if_proper (bytes_eq name (codes "tuples")) _ (tuples_if out (drawings_named words) (named_if (each placed_of words) (each_such IsPlaced placed_of placed_is words)))
 
 pub proper : (words : List (List ℕ)) (command : Tuples) → Some command ≡ command_of words → ArePlaced command.drawings
 proper words command is = subst (λ found. IfSome found IsProper) (sym is) (command_is words)

@@ -1,7 +1,7 @@
 -- Reading the drawings of a command one after another.
 use Rattle.std.proofs.Common.{◌≡◌, ℕ, ◌≤◌, List, length, map, drop, All}
 use Rattle.outside.specs.Files.{Files}
-use Rattle.outside.specs.Reading.{with_front}
+use Rattle.basics.specs.Reading.{with_front}
 use Rattle.glif.specs.Limits.{IsWithinLimits}
 use Rattle.glif.specs.declared.shape.Drawing.{Drawing}
 use Rattle.vfb.specs.Command.{Placed}

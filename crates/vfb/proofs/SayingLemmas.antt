@@ -3,7 +3,7 @@ use Rattle.std.proofs.Common.{◌≡◌, ℕ, ◌≤◌, List, [], ◌∷◌, �
 use Rattle.std.proofs.lemmas.List.{append_cancel_left}
 use Rattle.outside.specs.Files.{Files, IsFront, HasRisen}
 use Rattle.outside.specs.Said.{Says}
-use Rattle.outside.specs.declared.fault.Fault.{Fault}
+use Rattle.basics.specs.declared.fault.Fault.{Fault}
 use Rattle.vfb.specs.Command.{Tuples}
 use Rattle.vfb.specs.Ending.{status_of, ending_line}
 use Rattle.vfb.specs.Masters.{Masters, masters_of}

@@ -11,9 +11,10 @@ use Rattle.std.proofs.lemmas.List.{take-append-drop}
 use Rattle.std.proofs.lemmas.List.Elements.{All-from_get_or}
 use Rattle.std.specs.Str.{NoCharPasses}
 use Rattle.std.proofs.Math.Nat.{eq-or-lt_of_le}
-use Rattle.vfb.specs.Command.{◌>>=◌, each_of, coordinate_of, place_of, placed_of, Placed, are_on_axes, drawings_named}
+use Rattle.vfb.specs.Command.{coordinate_of, place_of, placed_of, Placed, are_on_axes, drawings_named}
 use Rattle.vfb.specs.Words.{seen}
 use Rattle.vfb.specs.declared.words.Placed as words
+use Rattle.basics.specs.Optional.{◌>>=◌, each}
 
 -- ---- what each item gives
 
@@ -31,11 +32,11 @@ with_front-cons front y (Some ys) = ap Some (sym (append_assoc front (y ∷ []) 
 
 -- one item more is found
 pub each_of-step : {A B : Type 0} (f : A → Option B) (front : List B) (x : A) (y : B) (xs : List A) → f x ≡ Some y
-    → with_front front (each_of f (x ∷ xs)) ≡ with_front (front ++ (y ∷ [])) (each_of f xs)
-each_of-step f front x y xs is = rw is (with_front-cons front y (each_of f xs))
+    → with_front front (each f (x ∷ xs)) ≡ with_front (front ++ (y ∷ [])) (each f xs)
+each_of-step f front x y xs is = rw is (with_front-cons front y (each f xs))
 
 -- an item gives nothing
-pub each_of-none : {A B : Type 0} (f : A → Option B) (front : List B) (x : A) (xs : List A) → f x ≡ None → with_front front (each_of f (x ∷ xs)) ≡ None
+pub each_of-none : {A B : Type 0} (f : A → Option B) (front : List B) (x : A) (xs : List A) → f x ≡ None → with_front front (each f (x ∷ xs)) ≡ None
 each_of-none f front x xs is = rw is refl
 
 -- ---- a place
@@ -49,33 +50,33 @@ parts text = slice_split (λ b. b == 44) text
 
 -- what is left completes a place
 abbrev pub IsLeft : List ℕ → List ℤ → List ℕ → Type 0
-IsLeft text front rest = each_of coordinate_of (parts text) ≡ with_front front (each_of coordinate_of (parts rest))
+IsLeft text front rest = each coordinate_of (parts text) ≡ with_front front (each coordinate_of (parts rest))
 
 too_long : (front : List ℤ) (y : ℤ) (rest : Option (List ℤ)) → length front ≡ 8 → (with_front front (rest >>= λ ys. Some (y ∷ ys)) >>= fits) ≡ None
 too_long front y None is = refl
 too_long front y (Some ys) is = rw (lt-leb (length (front ++ (y ∷ ys))) 8 (omega (arith, length-append front (y ∷ ys)))) refl
 
 -- a place with a part that is no coordinate, or with a ninth one, is none
-pub no_place : (text : List ℕ) (front : List ℤ) (x : List ℕ) (xs : List (List ℕ)) → each_of coordinate_of (parts text) ≡ with_front front (each_of coordinate_of (x ∷ xs))
+pub no_place : (text : List ℕ) (front : List ℤ) (x : List ℕ) (xs : List (List ℕ)) → each coordinate_of (parts text) ≡ with_front front (each coordinate_of (x ∷ xs))
     → (coordinate_of x ≡ None) ⊎ (length front ≡ 8) → place_of text ≡ None
 unfolding place_of
 no_place text front x xs left (inl none) = rw left (rw none refl)
 no_place text front x xs left (inr full) = rw left (choose (coordinate_of x))
   where
-    choose : (found : Option ℤ) → (with_front front (found >>= λ y. each_of coordinate_of xs >>= λ ys. Some (y ∷ ys)) >>= fits) ≡ None
+    choose : (found : Option ℤ) → (with_front front (found >>= λ y. each coordinate_of xs >>= λ ys. Some (y ∷ ys)) >>= fits) ≡ None
     choose None = refl
-    choose (Some y) = too_long front y (each_of coordinate_of xs) full
+    choose (Some y) = too_long front y (each coordinate_of xs) full
 
-pub more_place : (text : List ℕ) (front new : List ℤ) (x : List ℕ) (xs : List (List ℕ)) → each_of coordinate_of (parts text) ≡ with_front front (each_of coordinate_of (x ∷ xs))
-    → IsSomeAnd (coordinate_of x) (λ value. new ≡ front ++ (value ∷ [])) → each_of coordinate_of (parts text) ≡ with_front new (each_of coordinate_of xs)
+pub more_place : (text : List ℕ) (front new : List ℤ) (x : List ℕ) (xs : List (List ℕ)) → each coordinate_of (parts text) ≡ with_front front (each coordinate_of (x ∷ xs))
+    → IsSomeAnd (coordinate_of x) (λ value. new ≡ front ++ (value ∷ [])) → each coordinate_of (parts text) ≡ with_front new (each coordinate_of xs)
 more_place text front new x xs left found = left ∙ choose (coordinate_of x) refl found
   where
-    choose : (y : Option ℤ) → coordinate_of x ≡ y → IsSomeAnd y (λ value. new ≡ front ++ (value ∷ [])) → with_front front (each_of coordinate_of (x ∷ xs)) ≡ with_front new (each_of coordinate_of xs)
+    choose : (y : Option ℤ) → coordinate_of x ≡ y → IsSomeAnd y (λ value. new ≡ front ++ (value ∷ [])) → with_front front (each coordinate_of (x ∷ xs)) ≡ with_front new (each coordinate_of xs)
     choose None is none = absurd none
-    choose (Some y) is grown = each_of-step coordinate_of front x y xs is ∙ ap (λ front. with_front front (each_of coordinate_of xs)) (sym grown)
+    choose (Some y) is grown = each_of-step coordinate_of front x y xs is ∙ ap (λ front. with_front front (each coordinate_of xs)) (sym grown)
 
 -- the last part ends a place
-pub whole_place : (text : List ℕ) (at : List ℤ) → each_of coordinate_of (parts text) ≡ with_front at (Some []) → length at ≤ 8 → Some at ≡ place_of text
+pub whole_place : (text : List ℕ) (at : List ℤ) → each coordinate_of (parts text) ≡ with_front at (Some []) → length at ≤ 8 → Some at ≡ place_of text
 unfolding place_of
 whole_place text at left few = sym (rw (left, append-nil at, le-leb (length at) 8 few) refl)
 
@@ -106,20 +107,20 @@ parts_of_last rest lacks = slice_split_none (λ b. b == 44) rest (no_comma rest 
 pub loop_more : (text rest first more : List ℕ) (at new : List ℤ) → IsLeft text at rest → SplitsAroundMatch (FindsChar 44) rest first more
     → IsSomeAnd (coordinate_of first) (λ value. new ≡ at ++ (value ∷ [])) → IsLeft text new more
 loop_more text rest first more at new left cut found =
-    more_place text at new first (parts more) (left ∙ ap (λ parts. with_front at (each_of coordinate_of parts)) (parts_of_comma rest first more cut)) found
+    more_place text at new first (parts more) (left ∙ ap (λ parts. with_front at (each coordinate_of parts)) (parts_of_comma rest first more cut)) found
 
 pub loop_none : (text rest first more : List ℕ) (at : List ℤ) → IsLeft text at rest → SplitsAroundMatch (FindsChar 44) rest first more
     → (coordinate_of first ≡ None) ⊎ (length at ≡ 8) → place_of text ≡ None
 loop_none text rest first more at left cut lacks =
-    no_place text at first (parts more) (left ∙ ap (λ parts. with_front at (each_of coordinate_of parts)) (parts_of_comma rest first more cut)) lacks
+    no_place text at first (parts more) (left ∙ ap (λ parts. with_front at (each coordinate_of parts)) (parts_of_comma rest first more cut)) lacks
 
 pub end_some : (text rest : List ℕ) (at new : List ℤ) → IsLeft text at rest → FindsChar 44 rest None
     → IsSomeAnd (coordinate_of rest) (λ value. new ≡ at ++ (value ∷ [])) → length new ≤ 8 → Some new ≡ place_of text
 end_some text rest at new left last found few =
-    whole_place text new (more_place text at new rest [] (left ∙ ap (λ parts. with_front at (each_of coordinate_of parts)) (parts_of_last rest last)) found) few
+    whole_place text new (more_place text at new rest [] (left ∙ ap (λ parts. with_front at (each coordinate_of parts)) (parts_of_last rest last)) found) few
 
 pub end_none : (text rest : List ℕ) (at : List ℤ) → IsLeft text at rest → FindsChar 44 rest None → (coordinate_of rest ≡ None) ⊎ (length at ≡ 8) → place_of text ≡ None
-end_none text rest at left last lacks = no_place text at rest [] (left ∙ ap (λ parts. with_front at (each_of coordinate_of parts)) (parts_of_last rest last)) lacks
+end_none text rest at left last lacks = no_place text at rest [] (left ∙ ap (λ parts. with_front at (each coordinate_of parts)) (parts_of_last rest last)) lacks
 
 -- ---- cutting at the last sign @
 
@@ -172,7 +173,7 @@ drawing_placed word path place at cut is = rw (splits_last word path place cut, 
 -- ---- the drawings of the words
 
 abbrev pub AreLeft : List (List ℕ) → List Placed → List (List ℕ) → Type 0
-AreLeft words front rest = each_of placed_of words ≡ with_front front (each_of placed_of rest)
+AreLeft words front rest = each placed_of words ≡ with_front front (each placed_of rest)
 
 too_many : (front : List Placed) (y : Placed) (rest : Option (List Placed)) → length front ≡ 128
     → (with_front front (rest >>= λ ys. Some (y ∷ ys)) >>= λ drawings. if nat_le (length drawings) 128 && are_on_axes drawings then Some drawings else None) ≡ None
@@ -182,7 +183,7 @@ too_many front y (Some ys) is = rw (lt-leb (length (front ++ (y ∷ ys))) 128 (o
 -- a word more than 128 drawings
 pub no_drawings : (words : List (List ℕ)) (front : List Placed) (word : List ℕ) (rest : List (List ℕ)) (placed : Placed) → AreLeft words front (word ∷ rest) → placed_of word ≡ Some placed
     → length front ≡ 128 → drawings_named words ≡ None
-no_drawings words front word rest placed left is full = rw (left, is) (too_many front placed (each_of placed_of rest) full)
+no_drawings words front word rest placed left is full = rw (left, is) (too_many front placed (each placed_of rest) full)
 
 -- the tests of the drawings behind the first are those of the words' drawings
 on_same_axes : (axes : ℕ) (drawings : List words.Placed) → list_all (λ (placed : words.Placed). nat_eq (length placed.at.items) axes) drawings ≡ list_all (λ (placed : Placed). nat_eq (length placed.at) axes) (map seen drawings)

@@ -4,6 +4,7 @@ use Rattle.std.specs.List.{list_all, slice_split}
 use Rattle.std.specs.Path.{rsplit_once}
 use Rattle.fixpoint.specs.DecimalText.{whole_of}
 use Rattle.fixpoint.specs.declared.decimal.NumberFault.{NumberFault}
+use Rattle.basics.specs.Optional.{◌>>=◌, each}
 
 -- a drawing's file, and where in the design space it stands: one normalised coordinate an axis
 pub record Placed : Type 0 where
@@ -14,17 +15,6 @@ pub record Placed : Type 0 where
 pub record Tuples : Type 0 where
   pub out : List ℕ
   pub drawings : List Placed
-
--- nothing, or what the second step makes of the first one's value
-infixl 10 ◌>>=◌
-abbrev pub ◌>>=◌ : {A B : Type 0} → Option A → (A → Option B) → Option B
-(Some x) >>= f = f x
-None >>= f = None
-
--- what each item gives, or nothing where one gives nothing
-abbrev pub each_of : {A B : Type 0} → (A → Option B) → List A → Option (List B)
-each_of f [] = Some []
-each_of f (x ∷ xs) = f x >>= λ y. each_of f xs >>= λ ys. Some (y ∷ ys)
 
 -- a number from -16384 to 16384
 abbrev pub coordinate_by : Result ℤ NumberFault → Option ℤ
@@ -37,7 +27,7 @@ coordinate_of text = coordinate_by (whole_of text)
 
 -- coordinates of at most eight axes, with commas between them
 unfoldable pub place_of : List ℕ → Option (List ℤ)
-place_of text = each_of coordinate_of (slice_split (λ b. b == 44) text) >>= λ at. if nat_le (length at) 8 then Some at else None
+place_of text = each coordinate_of (slice_split (λ b. b == 44) text) >>= λ at. if nat_le (length at) 8 then Some at else None
 
 -- a path, behind its last sign @ the place
 unfoldable pub placed_of : List ℕ → Option Placed
@@ -49,7 +39,7 @@ are_on_axes [] = false
 are_on_axes (first ∷ more) = list_all (λ placed. nat_eq (length placed.at) (length first.at)) more
 
 abbrev pub drawings_named : List (List ℕ) → Option (List Placed)
-drawings_named words = each_of placed_of words >>= λ drawings. if nat_le (length drawings) 128 && are_on_axes drawings then Some drawings else None
+drawings_named words = each placed_of words >>= λ drawings. if nat_le (length drawings) 128 && are_on_axes drawings then Some drawings else None
 
 -- The words are the program's name, `tuples`, the file to write, and 1 to 128 drawings at places of as many axes. All
 -- other words are none of a command.

@@ -3,8 +3,8 @@ use Rattle.std.specs.Prelude.{◌≡◌, ℕ, List, [], ◌∷◌, ◌++◌, cod
 use Rattle.std.specs.List.{concat}
 use Rattle.std.specs.Fmt.{signed_decimal}
 use Rattle.outside.specs.Files.{IsFront}
-use Rattle.outside.specs.Kinds.{kind_name}
-use Rattle.outside.specs.declared.fault.Fault.{Fault}
+use Rattle.basics.specs.Kinds.{kind_name}
+use Rattle.basics.specs.declared.fault.Fault.{Fault}
 
 -- an empty text is shown as a dash
 abbrev pub or_dash : List ℕ → List ℕ

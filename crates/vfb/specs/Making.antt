@@ -1,6 +1,6 @@
 -- What making the masters and the data of a command's glyph answers.
 use Rattle.std.specs.Prelude.{◌≡◌, ◌≤◌, List, length, All, Result, Ok, Err}
-use Rattle.outside.specs.declared.fault.Fault.{Fault}
+use Rattle.basics.specs.declared.fault.Fault.{Fault}
 use Rattle.region_support.specs.Places.{places_of}
 use Rattle.region_support.specs.MasterOrder.{axes_of}
 use Rattle.region_support.specs.Regions.{AreNormalisedPlaces}

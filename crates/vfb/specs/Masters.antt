@@ -1,10 +1,10 @@
 -- The masters of a glyph that a command's drawings are, in their order, or the first fault.
 use Rattle.std.specs.Prelude.{◌≡◌, ℕ, ℤ, pos, ◌≤◌, Bool, List, [], ◌∷◌, length, map, All, Option, Some, None, Result, Ok, Err, if◌then◌else◌, slice_index_or}
 use Rattle.outside.specs.Files.{Files}
-use Rattle.outside.specs.Reading.{◌>>=◌}
-use Rattle.outside.specs.declared.fault.Kind.{Kind}
-use Rattle.outside.specs.declared.fault.Kind.TheVariants.{NoDefaultSource, SameLocation, DeltaRange}
-use Rattle.outside.specs.declared.fault.Fault.{Fault}
+use Rattle.basics.specs.Reading.{◌>>=◌}
+use Rattle.basics.specs.declared.kinds.Kind.{Kind}
+use Rattle.basics.specs.declared.kinds.Kind.TheVariants.{NoDefaultSource, SameLocation, DeltaRange}
+use Rattle.basics.specs.declared.fault.Fault.{Fault}
 use Rattle.glif.specs.Limits.{IsWithinLimits}
 use Rattle.glif.specs.declared.shape.Outline.{Outline}
 use Rattle.glif.specs.declared.shape.Drawing.{Drawing}

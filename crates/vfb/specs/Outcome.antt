@@ -1,7 +1,7 @@
 -- How a run ends: its status, what the files hold afterwards, and what was said.
 use Rattle.std.specs.Prelude.{◌≡◌, ℕ, ◌+◌, ◌<◌, ◌⊎◌, List, ◌++◌, length, codes, Option, Some, None, Result, Ok, Err}
 use Rattle.outside.specs.Files.{Files, put, content, IsFront, Exceeds}
-use Rattle.outside.specs.declared.fault.Fault.{Fault}
+use Rattle.basics.specs.declared.fault.Fault.{Fault}
 use Rattle.vfb.specs.Command.{Tuples}
 use Rattle.vfb.specs.Masters.{Masters, masters_of}
 use Rattle.vfb.specs.Stops.{StopsAt}

@@ -1,7 +1,7 @@
 -- What every function that performs a command makes of the outside, before the line of how it ended is said.
 use Rattle.std.specs.Prelude.{◌≡◌, ◌↔◌, ℕ, ◌≤◌, ◌⊎◌, List, ◌++◌, codes, Option, Some, None, Result, Ok, Err}
 use Rattle.outside.specs.Files.{Files, put, IsFront, HasRisen}
-use Rattle.outside.specs.declared.fault.Fault.{Fault}
+use Rattle.basics.specs.declared.fault.Fault.{Fault}
 use Rattle.vfb.specs.Command.{Tuples}
 use Rattle.vfb.specs.Masters.{Masters, masters_of}
 use Rattle.vfb.specs.Stops.{StopsAt}

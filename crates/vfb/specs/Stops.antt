@@ -1,8 +1,8 @@
 -- How making the data of a command's glyph may stop, and what it makes of the sources.
 use Rattle.std.specs.Prelude.{◌≡◌, ℕ, ◌≤◌, ◌⊎◌, List, [], ◌∷◌, Result, Err, IsOk}
 use Rattle.outside.specs.Files.{Files, HasRisen}
-use Rattle.outside.specs.Reading.{GivesBy}
-use Rattle.outside.specs.declared.fault.Fault.{Fault}
+use Rattle.basics.specs.Reading.{GivesBy}
+use Rattle.basics.specs.declared.fault.Fault.{Fault}
 use Rattle.vfb.specs.Command.{Placed}
 use Rattle.vfb.specs.Faults.{drawing_at}
 use Rattle.vfb.specs.declared.faults.ReadStop.{ReadStop}

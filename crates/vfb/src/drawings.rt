@@ -1,5 +1,5 @@
 ghost use Rattle.std.specs.Prelude.{◌≡◌, length, map, All, IfOk};
-ghost use Rattle.outside.specs.Reading.{Gives};
+ghost use Rattle.basics.specs.Reading.{Gives};
 ghost use Rattle.glif.specs.Limits.{IsWithinLimits};
 ghost use Rattle.glif.specs.Texts.{drawing_of_text};
 ghost use Rattle.glif.specs.declared.shape.Drawing.{Drawing};
@@ -10,7 +10,8 @@ ghost use Rattle.vfb.specs.Words.{seen};
 use crate::faults::{ReadStop, refuse_absent, refuse_length, refuse_spot};
 use crate::words::Placed;
 use glif::Drawing;
-use outside::{Found, Kind, ReadError, Seq, Sources, Stop, stop_at};
+use basics::{Kind, Seq, Stop, stop_at};
+use outside::{Found, ReadError, Sources};
 use std::alloc::Global;
 
 /// The most bytes of one file that are read.

@@ -5,7 +5,8 @@ ghost use Rattle.vfb.specs.Ending.{ending_of, status_of, ending_line};
 use crate::faults::ReadStop;
 use crate::lines::{say_no_memory, say_read_fault, say_refused, say_usage, say_write_fault};
 use crate::status::Status;
-use outside::{Failed, Fault, Say};
+use basics::Fault;
+use outside::{Failed, Say};
 
 /// How a command ended, with what the line said of it names.
 #[derive(Drop)]

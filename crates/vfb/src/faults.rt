@@ -1,11 +1,11 @@
 ghost use Rattle.std.specs.Prelude.{◌≡◌, [], IfOk, MatchResult};
-ghost use Rattle.outside.specs.Reading.{spot_of};
+ghost use Rattle.basics.specs.Reading.{spot_of};
 ghost use Rattle.vfb.specs.Faults.{fault_at, file_fault, length_fault};
 ghost use Rattle.vfb.specs.Masters.{difference_fault, place_fault, range_fault};
 ghost use Rattle.vfb.specs.Stops.{Refuses};
 
 use compat::Difference;
-use outside::{Fault, Kind, Name, NoMemory, Spot};
+use basics::{Fault, Kind, Name, NoMemory, Spot};
 use std::alloc::Global;
 
 /// Why the data of a glyph could not be made.

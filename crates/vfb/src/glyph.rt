@@ -1,5 +1,5 @@
 ghost use Rattle.std.specs.Prelude.{◌≡◌, ◌+◌, map, All, IfOk};
-ghost use Rattle.outside.specs.Reading.{GivesBy};
+ghost use Rattle.basics.specs.Reading.{GivesBy};
 ghost use Rattle.region_support.specs.MasterOrder.{axes_of};
 ghost use Rattle.region_support.specs.Places.{places_of, regions_in};
 ghost use Rattle.delta_solve.specs.GlyphModels.{IsModelOf, IsTupleWithin};
@@ -18,7 +18,8 @@ use crate::words::Command;
 use delta_solve::{DeltaStop, GlyphModel, solve_glyph, table};
 use glyph_variations::variations;
 use gvar_table::glyph_data;
-use outside::{Seq, Sources};
+use basics::Seq;
+use outside::Sources;
 use region_support::{Support, boxes};
 use std::alloc::Global;
 

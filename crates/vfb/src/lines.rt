@@ -2,7 +2,8 @@ ghost use Rattle.std.specs.Prelude.{◌≡◌};
 ghost use Rattle.outside.specs.Said.{Says};
 ghost use Rattle.vfb.specs.Lines.{or_dash, refused_line, usage_line, read_fault_line, write_fault_line, no_memory_line, counts_line};
 
-use outside::{Failed, Fault, Piece, Say, say_all};
+use basics::Fault;
+use outside::{Failed, Piece, Say, say_all};
 
 /// The text, or a dash in place of an empty one.
 fn or_dash(text: &str) -> &str

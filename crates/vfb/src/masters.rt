@@ -1,5 +1,5 @@
 ghost use Rattle.std.specs.Prelude.{◌≡◌, ◌<◌, ◌≤◌, length, map, All, IfOk};
-ghost use Rattle.outside.specs.Reading.{GivesBy};
+ghost use Rattle.basics.specs.Reading.{GivesBy};
 ghost use Rattle.glif.specs.Limits.{IsWithinLimits};
 ghost use Rattle.glif.specs.declared.shape.Drawing.{Drawing};
 ghost use Rattle.arrayvec.specs.ArrayVec.{array_vec_len};
@@ -15,7 +15,7 @@ use crate::contours::all_alike;
 use crate::faults::{ReadStop, refuse_places};
 use crate::words::Placed;
 use glif::{Drawing, Outline, Point};
-use outside::{Kind, Name, NoMemory, Seq};
+use basics::{Kind, Name, NoMemory, Seq};
 use region_support::{Location, ModelStop, in_order, order};
 use std::alloc::Global;
 

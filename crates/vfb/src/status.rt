@@ -1,7 +1,7 @@
 ghost use Rattle.std.specs.Prelude.{◌≡◌};
 ghost use Rattle.vfb.specs.Outcome.{status_number};
 
-use outside::Fault;
+use basics::Fault;
 
 /// How a run ended.
 #[derive(Drop)]

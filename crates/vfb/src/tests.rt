@@ -2,10 +2,8 @@
 //! out by hand.
 
 use super::*;
-use outside::{
-    Found, MemoryOutputs, MemorySay, MemorySources, Name, ReadError, Seq, Sources, SureOutputs,
-    SureSay, SureSources,
-};
+use basics::{Name, Seq};
+use outside::{Found, MemoryOutputs, MemorySay, MemorySources, ReadError, Sources, SureOutputs, SureSay, SureSources};
 use std::process::Abort;
 use std::test::Fail;
 

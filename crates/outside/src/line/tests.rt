@@ -1,11 +1,11 @@
 ghost use Rattle.std.specs.Prelude.{◌≡◌, List, [], ◌∷◌, decimal, codes};
 ghost use Rattle.std.specs.List.{concat};
 ghost use Rattle.std.specs.Fmt.{signed_decimal};
-ghost use Rattle.outside.specs.Kinds.{kind_name};
+ghost use Rattle.basics.specs.Kinds.{kind_name};
 ghost use Rattle.outside.specs.Said.{Says};
 
 use super::*;
-use crate::fault::Kind;
+use basics::Kind;
 use std::test::Fail;
 
 // A place that keeps what is said to it.

@@ -1,7 +1,7 @@
 use Rattle.std.proofs.Common.{◌≡◌, ◌+◌, length, drop}
 use Rattle.std.specs.Char.{is_ascii_digit}
-use Rattle.fixpoint.specs.DecimalText.{run_at}
 use Rattle.fixpoint.proofs.decimal.digit_count.Given as goal
+use Rattle.basics.specs.Bytes.{run_at}
 
 abbrev pub invariant-loop-place : goal.invariant-loop-place
 invariant-loop-place l = l.place + length (run_at is_ascii_digit (drop l.place l.text)) ≡ length (run_at is_ascii_digit l.text)

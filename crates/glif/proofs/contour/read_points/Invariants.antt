@@ -1,5 +1,5 @@
 use Rattle.std.proofs.Common.{◌≡◌, false, map, drop}
-use Rattle.outside.specs.Reading.{each, with_front}
+use Rattle.basics.specs.Reading.{each, with_front}
 use Rattle.markup.specs.Plain.{plain}
 use Rattle.glif.specs.Contours.{point_of, points_of}
 use Rattle.glif.proofs.contour.read_points.Given as goal

@@ -1,5 +1,5 @@
 use Rattle.std.proofs.Common.{◌≡◌, map, drop}
-use Rattle.outside.specs.Reading.{in_turn}
+use Rattle.basics.specs.Reading.{in_turn}
 use Rattle.markup.specs.Plain.{plain}
 use Rattle.glif.specs.Glyphs.{child_of, nothing_seen}
 use Rattle.glif.proofs.glyph.read_children.Given as goal

@@ -1,5 +1,5 @@
 use Rattle.std.proofs.Common.{◌≡◌, map, drop}
-use Rattle.outside.specs.Reading.{in_turn}
+use Rattle.basics.specs.Reading.{in_turn}
 use Rattle.markup.specs.Plain.{plain}
 use Rattle.markup_rules.specs.Tree.{children_of}
 use Rattle.glif.specs.Glyphs.{no_shapes, shape_of}

@@ -1,6 +1,6 @@
 use Rattle.std.proofs.Common.{◌≡◌, ◌<◌, ◌∙◌, ◌≤◌, sym, ap, subst, length, rules, arith}
 use Rattle.markup_rules.specs.Outcome.{initial, outcome}
-use Rattle.outside.specs.Reading.{Gives}
+use Rattle.basics.specs.Reading.{Gives}
 use Rattle.markup.specs.Plain.{plain}
 use Rattle.markup_rules.proofs.Steps.{rest_from, rest_begins, rest_done}
 use Rattle.markup.proofs.Loops.{goes_on, fails_so, is_shorter}

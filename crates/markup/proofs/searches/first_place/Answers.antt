@@ -1,8 +1,8 @@
 use Rattle.std.proofs.Common.{◌≡◌, ◌∙◌, sym, ap, false, drop}
 use Rattle.std.proofs.lemmas.List.{take_rest}
-use Rattle.markup_rules.specs.Bytes.{begins}
 use Rattle.markup_rules.proofs.Searches.{first_place_step}
 use Rattle.markup.proofs.searches.first_place.Goals as goal
+use Rattle.basics.specs.Bytes.{begins}
 
 pub loop-place-preserved : goal.loop-place-preserved
 loop-place-preserved c =

@@ -1,5 +1,5 @@
 use Rattle.std.proofs.Common.{flat_map, take, Ok}
-use Rattle.outside.specs.declared.fault.Failed.{Failed}
+use Rattle.outside.specs.declared.traits.Failed.{Failed}
 use Rattle.outside.specs.Piece.{piece_text}
 use Rattle.outside.specs.Said.{Says}
 use Rattle.outside.proofs.line.say_all.Given as goal

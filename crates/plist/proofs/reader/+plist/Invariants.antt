@@ -1,5 +1,5 @@
 use Rattle.std.proofs.Common.{◌≡◌, drop, map}
-use Rattle.outside.specs.Reading.{with_front}
+use Rattle.basics.specs.Reading.{with_front}
 use Rattle.markup_rules.specs.Tree.{trees_of}
 use Rattle.markup.specs.Plain.{plain}
 use Rattle.plist.specs.Reading.{items_of, entries_of}

@@ -58,7 +58,7 @@ pub(crate) enum Kept {
 }
 
 impl Kept {
-    ghost use Rattle.outside.specs.Kept.{kept_bytes};
+    ghost use Rattle.basics.specs.Kept.{kept_bytes};
 
     /// Keeps a copy of the text.
     pub(crate) fn from_str(alloc: Global, text: &str) -> Result<Kept, NoMemory>

@@ -1,10 +1,10 @@
 -- The value of a source or its first fault, and what it means that a call gives it.
 -- A is a value, F a fault, and S the stop of a call, which may also be want of memory.
 use Rattle.std.specs.Prelude.{◌≡◌, ℕ, ℤ, pos, List, [], ◌∷◌, ◌++◌, Result, Ok, Err}
-use Rattle.outside.specs.declared.fault.Kind.{Kind}
-use Rattle.outside.specs.declared.fault.Spot.{Spot}
-use Rattle.outside.specs.declared.fault.Stop.{Stop}
-use Rattle.outside.specs.declared.fault.Stop.TheVariants.{At, NoMemory}
+use Rattle.basics.specs.declared.kinds.Kind.{Kind}
+use Rattle.basics.specs.declared.fault.Spot.{Spot}
+use Rattle.basics.specs.declared.fault.Stop.{Stop}
+use Rattle.basics.specs.declared.fault.Stop.TheVariants.{At, NoMemory}
 
 -- the first fault, or what the second step makes of the first one's value
 infixl 10 ◌>>=◌

@@ -1,7 +1,7 @@
 -- What a text that is kept stands for.
 use Rattle.std.specs.Prelude.{ℕ, List, string_bytes}
-use Rattle.outside.specs.declared.kept.Kept.{Kept}
-use Rattle.outside.specs.declared.kept.Kept.TheVariants.{Short, Long}
+use Rattle.basics.specs.declared.kept.Kept.{Kept}
+use Rattle.basics.specs.declared.kept.Kept.TheVariants.{Short, Long}
 
 abbrev pub kept_bytes : Kept → List ℕ
 kept_bytes (Short text) = text

@@ -5,7 +5,7 @@ ghost use Rattle.std.specs.Cmp.Lexicographic.{pointwise, slice_cmp};
 ghost use Rattle.std.specs.Ordering.{nat_cmp, as_partial_cmp};
 ghost use Rattle.std.specs.Hash as fed;
 ghost use Rattle.std.proofs.Common.{rules};
-ghost use Rattle.outside.specs.Kept.{kept_bytes};
+ghost use Rattle.basics.specs.Kept.{kept_bytes};
 
 use crate::fault::NoMemory;
 use crate::kept::Kept;

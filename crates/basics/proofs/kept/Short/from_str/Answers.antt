@@ -2,7 +2,7 @@ use Rattle.std.proofs.Common.{◌≡◌, ◌∙◌, List, ℕ, ap, take, length,
 use Rattle.std.specs.Str.{is_utf8, IsUtf8}
 use Rattle.std.proofs.lemmas.Str.{is_utf8-from_IsUtf8}
 use Rattle.std.proofs.Math.Seq.{take-append_seam}
-use Rattle.outside.proofs.kept.Short.from_str.Goals as goal
+use Rattle.basics.proofs.kept.Short.from_str.Goals as goal
 
 -- a text that is copied to the front of other bytes stands there
 utf8_front : (text copied rest : List ℕ) → copied ≡ text → IsUtf8 text → is_utf8 (take (length text) (copied ++ rest)) ≡ true

@@ -1,0 +1,5 @@
+pub mod Bytes
+pub mod Kept
+pub mod Kinds
+pub mod Optional
+pub mod Reading
