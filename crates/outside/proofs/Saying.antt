@@ -5,6 +5,7 @@ use Rattle.std.proofs.lemmas.List.{append-nil, drop_more, take-append-drop}
 use Rattle.std.proofs.lemmas.Grind.{flat_map-append}
 use Rattle.outside.specs.Files.{IsFront, HasRisen}
 use Rattle.outside.specs.Said.{Says}
+use Rattle.outside.specs.States.{SayState}
 
 -- a front of a list is a front of what goes on from there
 pub front_before : (a t c : List ℕ) → IsFront (a ++ t) c → IsFront a c
@@ -30,12 +31,11 @@ pub risen_after : (a b c : ℕ) → a ≤ b → HasRisen b c → HasRisen a c
 risen_after a b c h k = omega arith
 
 -- nothing is said where nothing was done
-pub says_nothing : {X V E : Type 0} (tells : X → Type 0) (said : X → List ℕ) (faults : X → ℕ) (is_sure : X → Type 0) (room : X → ℕ) (s : X) (v : V)
-    → Says {E = E} tells said faults is_sure room s s [] (Ok v)
-says_nothing tells said faults is_sure room s v = record {
+pub says_nothing : {V E : Type 0} (s : SayState) (v : V) → Says {E = E} s s [] (Ok v)
+says_nothing s v = record {
   told = λ h. h;
   counted = omega arith;
-  whole = λ _. sym (append-nil (said s));
+  whole = λ _. sym (append-nil s.said);
   front = λ _. tt;
   risen = tt;
   sure = λ h. (h, refl);
@@ -43,39 +43,36 @@ says_nothing tells said faults is_sure room s v = record {
 }
 
 -- a text that is said after another: together they are said, whole or cut short in the second
-pub says_then : {X V W E F : Type 0} {tells : X → Type 0} {said : X → List ℕ} {faults : X → ℕ} {is_sure : X → Type 0} {room : X → ℕ} {a b c : X} {t u : List ℕ} {v : V} (r : Result W F)
-    → Says {E = E} tells said faults is_sure room a b t (Ok v)
-    → Says tells said faults is_sure room b c u r
-    → Says tells said faults is_sure room a c (t ++ u) r
-says_then {said} {a} {t} {u} (Ok w) one two = record {
+pub says_then : {V W E F : Type 0} {a b c : SayState} {t u : List ℕ} {v : V} (r : Result W F)
+    → Says {E = E} a b t (Ok v) → Says b c u r → Says a c (t ++ u) r
+says_then {a} {t} {u} (Ok w) one two = record {
   told = λ h. two.told (one.told h);
   counted = omega arith;
-  whole = λ h. two.whole (one.told h) ∙ ap (λ l. l ++ u) (one.whole h) ∙ append_assoc (said a) t u;
+  whole = λ h. two.whole (one.told h) ∙ ap (λ l. l ++ u) (one.whole h) ∙ append_assoc a.said t u;
   front = λ _. tt;
   risen = tt;
   sure = λ h. let b_sure = one.sure h in let c_sure = two.sure b_sure.0 in (c_sure.0, c_sure.1 ∙ b_sure.1);
-  full = λ _ _. tt;
+  full = λ h k. tt;
 }
-says_then {said} {faults} {room} {a} {b} {c} {t} {u} (Err f) one two = record {
+says_then {a} {b} {c} {t} {u} (Err f) one two = record {
   told = λ h. two.told (one.told h);
   counted = omega arith;
   whole = λ _. tt;
-  front = λ h. cut_after (said a) t u (said b) (said c) (one.whole h) (two.front (one.told h));
-  risen = risen_after (faults a) (faults b) (faults c) one.counted two.risen;
+  front = λ h. cut_after a.said t u b.said c.said (one.whole h) (two.front (one.told h));
+  risen = risen_after a.faults b.faults c.faults one.counted two.risen;
   sure = λ h. let b_sure = one.sure h in let c_sure = two.sure b_sure.0 in (c_sure.0, c_sure.1 ∙ b_sure.1);
-  full = λ h k. full_after (said a) t u (said b) (room a) (room b) (one.whole k) (one.sure h).1
+  full = λ h k. full_after a.said t u b.said a.room b.room (one.whole k) (one.sure h).1
       (two.full (one.sure h).0 (one.told k));
 }
 
 -- a text that is cut short is a longer one that is cut short, whatever error says so
-pub says_cut : {X V W E F : Type 0} {tells : X → Type 0} {said : X → List ℕ} {faults : X → ℕ} {is_sure : X → Type 0} {room : X → ℕ} {a b : X} {t : List ℕ} {e : E} (f : F) (u : List ℕ)
-    → Says {V = V} tells said faults is_sure room a b t (Err e)
-    → Says {V = W} tells said faults is_sure room a b (t ++ u) (Err f)
-says_cut {said} {a} {b} {t} f u cut = record {
+pub says_cut : {V W E F : Type 0} {a b : SayState} {t : List ℕ} {e : E} (f : F) (u : List ℕ)
+    → Says {V = V} a b t (Err e) → Says {V = W} a b (t ++ u) (Err f)
+says_cut {a} {b} {t} f u cut = record {
   told = cut.told;
   counted = cut.counted;
   whole = λ _. tt;
-  front = λ h. ((cut.front h).0, front_of_longer (said b) (said a) t u (cut.front h).1);
+  front = λ h. ((cut.front h).0, front_of_longer b.said a.said t u (cut.front h).1);
   risen = cut.risen;
   sure = cut.sure;
   full = λ h k. let short = cut.full h k in omega (arith, length-append t u);
@@ -91,12 +88,12 @@ flat_map_parts text parts i d h =
     ∙ ap (flat_map text) (take-append-drop i parts)
 
 -- where one part fails after all before it were said, the text of all parts is cut short
-pub says_cut_at : {P X V W E F G : Type 0} {tells : X → Type 0} {said : X → List ℕ} {faults : X → ℕ} {is_sure : X → Type 0} {room : X → ℕ} {a b c : X} {v : V} {f : F} (g : G)
+pub says_cut_at : {P V W E F G : Type 0} {a b c : SayState} {v : V} {f : F} (g : G)
     (text : P → List ℕ) (parts : List P) (i : ℕ) (d : P) → i < length parts
-    → Says {E = E} tells said faults is_sure room a b (flat_map text (take i parts)) (Ok v)
-    → Says {V = W} tells said faults is_sure room b c (text (get_or parts i d)) (Err f)
-    → Says {V = W} tells said faults is_sure room a c (flat_map text parts) (Err g)
-says_cut_at {W} {tells} {said} {faults} {is_sure} {room} {a} {c} g text parts i d h before failed =
-    subst (λ whole. Says {V = W} tells said faults is_sure room a c whole (Err g))
+    → Says {E = E} a b (flat_map text (take i parts)) (Ok v)
+    → Says {V = W} b c (text (get_or parts i d)) (Err f)
+    → Says {V = W} a c (flat_map text parts) (Err g)
+says_cut_at {W} {a} {c} g text parts i d h before failed =
+    subst (λ whole. Says {V = W} a c whole (Err g))
     (flat_map_parts text parts i d h)
     (says_cut g (flat_map text (drop (i + 1) parts)) (says_then _ before failed))

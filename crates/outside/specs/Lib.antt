@@ -14,3 +14,4 @@ pub mod MemorySay
 pub mod Placed
 pub mod SureOutputs
 pub mod MemoryOutputs
+pub mod States

@@ -44,13 +44,7 @@ fn read_file<R: Files>(rt: &R, alloc: Global, path: &str, limit: usize) -> Resul
 }
 
 impl<R: Files> Sources for HostSources<R> {
-    ghost tells = { λ _. ⊥ };
-
-    ghost files = { λ _ _. None };
-
-    ghost faults = { λ sources. sources.faults };
-
-    ghost is_sure = { λ _. ⊥ };
+    ghost state = { λ sources. record { tells = ⊥; files = λ _. None; faults = sources.faults; is_sure = ⊥ } };
 
     fn read(&mut self, alloc: Global, path: &str, limit: usize) -> Result<Found, ReadError>
         ensures within { IfOk result (IsWithin limit) }
@@ -91,18 +85,8 @@ impl<R: Files> HostOutputs<R> {
 }
 
 impl<R: Files> Outputs for HostOutputs<R> {
-    ghost tells = { λ _. ⊥ };
-
-    ghost files = { λ _ _. None };
-
     // Whether a path is begun, and not which.
-    ghost begun = { λ outputs. if is_some outputs.file then Some [] else None };
-
-    ghost faults = { λ outputs. outputs.faults };
-
-    ghost is_sure = { λ _. ⊥ };
-
-    ghost room = { λ _ _. None };
+    ghost state = { λ outputs. record { tells = ⊥; files = λ _. None; begun = if is_some outputs.file then Some [] else None; faults = outputs.faults; is_sure = ⊥; room = λ _. None } };
 
     fn begin(&mut self, path: &str) -> Result<(), Failed>
         ensures begun { is_some self.new.file ≡ is_ok result }
@@ -156,15 +140,7 @@ impl<R: Print> HostSay<R> {
 }
 
 impl<R: Print> Say for HostSay<R> {
-    ghost tells = { λ _. ⊥ };
-
-    ghost said = { λ _. [] };
-
-    ghost faults = { λ say. say.faults };
-
-    ghost is_sure = { λ _. ⊥ };
-
-    ghost room = { λ _. 0 };
+    ghost state = { λ say. record { tells = ⊥; said = []; faults = say.faults; is_sure = ⊥; room = 0 } };
 
     fn say(&mut self, bytes: &[u8]) -> Result<(), Failed>
         ensures counted { self.new.faults ≡ count_after self.old.faults result }

@@ -20,14 +20,14 @@ pub enum Piece<'a> {
 
 /// Says one text.
 fn say_text<T: Say>(say: &mut T, text: &str) -> Result<(), Failed>
-    ensures { Says T.tells T.said T.faults T.is_sure T.room say.old say.new text.now result }
+    ensures { Says (T.state say.old) (T.state say.new) text.now result }
 {
     say.say(text.as_bytes())
 }
 
 /// Says one piece.
 fn say_piece<T: Say>(say: &mut T, piece: Piece<'_>) -> Result<(), Failed>
-    ensures { Says T.tells T.said T.faults T.is_sure T.room say.old say.new (piece_text piece.entry) result }
+    ensures { Says (T.state say.old) (T.state say.new) (piece_text piece.entry) result }
 {
     match piece {
         Piece::Word(word) => say_text(say, word),
@@ -40,7 +40,7 @@ fn say_piece<T: Say>(say: &mut T, piece: Piece<'_>) -> Result<(), Failed>
 /// Says the pieces one after another, and takes no memory. The first piece that fails ends the saying:
 /// what is said then is a front of their text.
 pub fn say_all<T: Say>(say: &mut T, pieces: &[Piece<'_>]) -> Result<(), Failed>
-    ensures { Says T.tells T.said T.faults T.is_sure T.room say.old say.new (flat_map piece_text pieces.now) result }
+    ensures { Says (T.state say.old) (T.state say.new) (flat_map piece_text pieces.now) result }
 {
     for piece in pieces {
         say_piece(say, *piece)?;

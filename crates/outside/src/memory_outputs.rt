@@ -48,17 +48,7 @@ impl MemoryOutputs {
 }
 
 impl Outputs for MemoryOutputs {
-    ghost tells = { λ _. Unit {0} };
-
-    ghost files = { files_of };
-
-    ghost begun = { begun_of };
-
-    ghost faults = { faults_of };
-
-    ghost is_sure = { λ _. ⊥ };
-
-    ghost room = { room_of };
+    ghost state = { λ outputs. record { tells = Unit {0}; files = files_of outputs; begun = begun_of outputs; faults = faults_of outputs; is_sure = ⊥; room = room_of outputs } };
 
     fn begin(&mut self, path: &str) -> Result<(), Failed>
         ensures spared { OnOk result (¬ (Contains (failing_of self.old) (next_of self.old))) }

@@ -41,15 +41,7 @@ impl MemorySay {
 }
 
 impl Say for MemorySay {
-    ghost tells = { λ _. Unit {0} };
-
-    ghost said = { said_of };
-
-    ghost faults = { faults_of };
-
-    ghost is_sure = { λ _. ⊥ };
-
-    ghost room = { room_of };
+    ghost state = { λ say. record { tells = Unit {0}; said = said_of say; faults = faults_of say; is_sure = ⊥; room = room_of say } };
 
     fn say(&mut self, bytes: &[u8]) -> Result<(), Failed>
         ensures spared { OnOk result (¬ (Contains (failing_of self.old) (next_of self.old))) }

@@ -36,13 +36,7 @@ impl MemorySources {
 }
 
 impl Sources for MemorySources {
-    ghost tells = { λ _. Unit {0} };
-
-    ghost files = { files_of };
-
-    ghost faults = { faults_of };
-
-    ghost is_sure = { λ _. ⊥ };
+    ghost state = { λ sources. record { tells = Unit {0}; files = files_of sources; faults = faults_of sources; is_sure = ⊥ } };
 
     fn read(&mut self, alloc: Global, path: &str, limit: usize) -> Result<Found, ReadError>
         ensures same { files_of self.new ≡ files_of self.old }

@@ -96,17 +96,7 @@ impl Outputs for SureOutputs {
     ghost use Rattle.outside.specs.Stored.{FitsAt, ExceedsAt, fitting_at};
     ghost use Rattle.outside.specs.SureOutputs.{files_of, room_of, begun_of, faults_of};
 
-    ghost tells = { λ _. Unit {0} };
-
-    ghost files = { files_of };
-
-    ghost begun = { begun_of };
-
-    ghost faults = { faults_of };
-
-    ghost is_sure = { λ _. Unit {0} };
-
-    ghost room = { room_of };
+    ghost state = { λ outputs. record { tells = Unit {0}; files = files_of outputs; begun = begun_of outputs; faults = faults_of outputs; is_sure = Unit {0}; room = room_of outputs } };
 
     fn begin(&mut self, path: &str) -> Result<(), Failed>
         ensures has_room { OnOk result (IsSome (room_of self.old path.now)) }

@@ -46,15 +46,7 @@ impl SureSay {
 }
 
 impl Say for SureSay {
-    ghost tells = { λ _. Unit {0} };
-
-    ghost said = { said_of };
-
-    ghost faults = { faults_of };
-
-    ghost is_sure = { λ _. Unit {0} };
-
-    ghost room = { room_of };
+    ghost state = { λ say. record { tells = Unit {0}; said = said_of say; faults = faults_of say; is_sure = Unit {0}; room = room_of say } };
 
     fn say(&mut self, bytes: &[u8]) -> Result<(), Failed>
         ensures fits { OnOk result (length (said_of self.old) + length bytes.now ≤ room_of self.old) }

@@ -23,13 +23,7 @@ impl SureSources {
 }
 
 impl Sources for SureSources {
-    ghost tells = { λ _. Unit {0} };
-
-    ghost files = { files_of };
-
-    ghost faults = { λ _. 0 };
-
-    ghost is_sure = { λ _. Unit {0} };
+    ghost state = { λ sources. record { tells = Unit {0}; files = files_of sources; faults = 0; is_sure = Unit {0} } };
 
     fn read(&mut self, alloc: Global, path: &str, limit: usize) -> Result<Found, ReadError>
         ensures same { files_of self.new ≡ files_of self.old }

@@ -16,15 +16,7 @@ struct Page {
 }
 
 impl Say for Page {
-    ghost tells = { λ _. ⊥ };
-
-    ghost said = { λ _. [] };
-
-    ghost faults = { λ page. page.faults };
-
-    ghost is_sure = { λ _. ⊥ };
-
-    ghost room = { λ _. 0 };
+    ghost state = { λ say. record { tells = ⊥; said = []; faults = say.faults; is_sure = ⊥; room = 0 } };
 
     fn say(&mut self, bytes: &[u8]) -> Result<(), Failed> {
         match self.text.extend_from_slice(bytes) {
@@ -39,7 +31,7 @@ impl Say for Page {
 
 // A line whose definition lists the pieces' texts needs no proof of its own.
 fn say_place<T: Say>(say: &mut T, kind: Kind, path: &str, at: u64, first: i64) -> Result<(), Failed>
-    ensures { Says T.tells T.said T.faults T.is_sure T.room say.old say.new
+    ensures { Says (T.state say.old) (T.state say.new)
         (concat (codes "at " ∷ kind_name kind ∷ codes " " ∷ path.now ∷ codes " " ∷ decimal at ∷ codes " " ∷ signed_decimal first ∷ codes "\n" ∷ [])) result }
 {
     say_all(

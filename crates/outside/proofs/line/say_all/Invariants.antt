@@ -7,5 +7,5 @@ use Rattle.outside.proofs.line.say_all.Given as goal
 -- the pieces up to here are said
 abbrev pub invariant-loop-piece : goal.invariant-loop-piece
 invariant-loop-piece g l =
-    Says {V = Unit {0}} {E = Failed} g.T.Say.tells g.T.Say.said g.T.Say.faults g.T.Say.is_sure g.T.Say.room l.initial.say l.say
+    Says {V = Unit {0}} {E = Failed} (g.T.Say.state l.initial.say) (g.T.Say.state l.say)
     (flat_map piece_text (take l.piece-index l.pieces)) (Ok tt)
