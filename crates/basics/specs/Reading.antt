@@ -1,6 +1,6 @@
 -- The value of a source or its first fault, and what it means that a call gives it.
 -- A is a value, F a fault, and S the stop of a call, which may also be want of memory.
-use Rattle.std.specs.Prelude.{◌≡◌, ℕ, ℤ, pos, List, [], ◌∷◌, ◌++◌, Result, Ok, Err}
+use Rattle.std.specs.Prelude.{◌≡◌, ℕ, ◌+◌, ℤ, pos, List, [], ◌∷◌, ◌++◌, Result, Ok, Err}
 use Rattle.basics.specs.declared.kinds.Kind.{Kind}
 use Rattle.basics.specs.declared.fault.Spot.{Spot}
 use Rattle.basics.specs.declared.fault.Stop.{Stop}
@@ -16,6 +16,16 @@ abbrev pub ◌>>=◌ : {A B F : Type 0} → Result A F → (A → Result B F) �
 abbrev pub each : {A B F : Type 0} → (A → Result B F) → List A → Result (List B) F
 each f [] = Ok []
 each f (t ∷ ts) = f t >>= λ x. each f ts >>= λ xs. Ok (x ∷ xs)
+
+-- what each of a list gives with its number, counted on from one, in order, or the first fault
+abbrev pub each_numbered : {A B F : Type 0} → (ℕ → A → Result B F) → ℕ → List A → Result (List B) F
+each_numbered f i [] = Ok []
+each_numbered f i (t ∷ ts) = f i t >>= λ x. each_numbered f (i + 1) ts >>= λ xs. Ok (x ∷ xs)
+
+-- each of a list passes the test with its number, in order, or the first fault
+abbrev pub all_pass : {A F : Type 0} → (ℕ → A → Result (Unit {0}) F) → ℕ → List A → Result (Unit {0}) F
+all_pass test i [] = Ok tt
+all_pass test i (t ∷ ts) = test i t >>= λ _. all_pass test (i + 1) ts
 
 -- a state that each of a list changes, in order, or the first fault
 abbrev pub in_turn : {A S F : Type 0} → (S → A → Result S F) → S → List A → Result S F
