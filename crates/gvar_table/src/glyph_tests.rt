@@ -5,7 +5,8 @@ use fixpoint::{Fix, Pair};
 use basics::{NoMemory, Seq};
 use std::alloc::Global;
 use std::test::*;
-use variation_rules::{Triple, TupleVariation, read_tuples};
+use variation_decoder::read_tuples;
+use variation_rules::{Triple, TupleVariation};
 
 /// A tuple: start, peak and end of each axis, and the points, each with its number and its delta.
 pub(crate) struct Plain {

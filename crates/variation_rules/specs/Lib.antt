@@ -9,7 +9,3 @@ pub mod DrawnOutline
 pub mod FontUnits
 pub mod PointDelta
 pub mod DrawnGlyph
-pub mod Decoding
-pub mod DecodingDeltas
-pub mod DecodingPoints
-pub mod DecodingTuples

@@ -10,8 +10,8 @@ ghost use Rattle.variation_rules.specs.declared.tuple.TupleVariation.{TupleVaria
 use crate::filling::{STILL, filled, named};
 use crate::scalars::scalar;
 use crate::tuple::TupleVariation;
-use fixpoint::{Fix, Pair};
 use basics::{NoMemory, Seq};
+use fixpoint::{Fix, Pair};
 use std::alloc::Global;
 
 /// An outline point at a location, in 65536ths of a font unit.

@@ -3,8 +3,8 @@ ghost use Rattle.variation_rules.specs.FontUnits.{AreFWords, IsFWord, IsReferenc
 ghost use Rattle.variation_rules.specs.declared.tuple.TupleVariation.{TupleVariation};
 
 use crate::{DrawnPoint, Reference, Triple, TupleVariation, draw, filled, inferred_delta, scalar};
-use fixpoint::{Fix, Pair};
 use basics::{NoMemory, Seq};
+use fixpoint::{Fix, Pair};
 use std::alloc::Global;
 use std::test::Fail;
 

@@ -7,8 +7,8 @@ ghost use Rattle.fixpoint.specs.declared.plane.Pair.{Pair};
 
 use crate::inferred::{Reference, inferred_delta};
 use crate::tuple::TupleVariation;
-use fixpoint::Pair;
 use basics::NoMemory;
+use fixpoint::Pair;
 use std::alloc::Global;
 
 // No movement.

@@ -10,15 +10,8 @@
 mod drawing;
 #[cfg(test)]
 mod drawing_tests;
-mod fields;
 mod filling;
-mod header;
 mod inferred;
-mod packed;
-mod reader;
-#[cfg(test)]
-mod reading_tests;
-mod refusal;
 mod region;
 mod runs;
 mod scalars;
@@ -27,7 +20,6 @@ mod tuple;
 pub use drawing::{DrawnGlyph, DrawnPoint, draw, one_drawing};
 pub use filling::filled;
 pub use inferred::{Reference, inferred_delta};
-pub use reader::{one_reading, read_tuples};
 pub use region::Triple;
 pub use runs::{DeltaClass, PointClass};
 pub use scalars::scalar;

@@ -1,6 +1,6 @@
 use crate::region::Triple;
-use fixpoint::Pair;
 use basics::Seq;
+use fixpoint::Pair;
 
 /// One tuple variation of a glyph (OpenType, "Tuple variation store"): a region of the design space and
 /// the deltas that some points have in it.

@@ -5,7 +5,8 @@ ghost use Rattle.variation_rules.specs.declared.tuple.TupleVariation.{TupleVaria
 use super::several::{one_point, outcome};
 use super::*;
 use fixpoint::{Fix, Pair};
-use variation_rules::{TupleVariation, draw, read_tuples};
+use variation_decoder::read_tuples;
+use variation_rules::{TupleVariation, draw};
 
 /// Whether both numbers of a delta fit 16 bits.
 fn are_words(delta: &Pair) -> bool

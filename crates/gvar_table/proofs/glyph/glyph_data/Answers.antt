@@ -1,7 +1,7 @@
 -- Each turn adds a header and a packed part; in the end no tuple is left.
 use Rattle.std.proofs.Common.{◌+◌, ◌++◌, ◌^◌, ◌<◌, ◌≤◌, length, get_or, ap, subst, sym, ◌∙◌, arith}
 use Rattle.variation_rules.specs.Fields.{word}
-use Rattle.variation_rules.proofs.DecodingGlyph.{means_one}
+use Rattle.variation_decoder.proofs.Glyph.{means_one}
 use Rattle.gvar_table.specs.Tuples.{IsTupleOf}
 use Rattle.gvar_table.proofs.GlyphLemmas.{all_written, data_spelled, means, next_header, next_tuple, packs}
 use Rattle.gvar_table.proofs.SizeLemmas.{written_length}

@@ -1,0 +1,13 @@
+pub mod Bits
+pub mod DeltaRuns
+pub mod FieldReaders
+pub mod Glyph
+pub mod Headers
+pub mod Loops
+pub mod Parts
+pub mod PointRuns
+pub mod Readers
+pub mod Rising
+pub mod Runs
+pub mod Steps
+pub mod TupleParts

@@ -1,0 +1,4 @@
+pub mod Reading
+pub mod Deltas
+pub mod Points
+pub mod Tuples

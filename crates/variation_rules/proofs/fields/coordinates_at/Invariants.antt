@@ -1,7 +1,0 @@
-use Rattle.std.proofs.Common.{◌≡◌, ◌-◌}
-use Rattle.variation_rules.specs.Decoding.{many, signed_word_at}
-use Rattle.variation_rules.proofs.DecodingLoops.{with_front}
-use Rattle.variation_rules.proofs.fields.coordinates_at.Given as goal
-
-abbrev pub invariant-loop : goal.invariant-loop
-invariant-loop l = with_front l.coordinates (many signed_word_at (l.axes - l.counter) l.rest) ≡ many signed_word_at l.axes l.bytes

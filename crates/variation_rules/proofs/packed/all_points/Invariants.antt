@@ -1,6 +1,0 @@
-use Rattle.std.proofs.Common.{◌≡◌}
-use Rattle.variation_rules.specs.PackedPoints.{count_from}
-use Rattle.variation_rules.proofs.packed.all_points.Given as goal
-
-abbrev pub invariant-loop-point : goal.invariant-loop-point
-invariant-loop-point l = l.points ≡ count_from l.point 0

@@ -1,8 +1,0 @@
-use Rattle.std.proofs.Common.{◌≡◌, ◌-◌}
-use Rattle.variation_rules.specs.Decoding.{many}
-use Rattle.variation_rules.specs.DecodingDeltas.{delta_at}
-use Rattle.variation_rules.proofs.DecodingLoops.{with_front}
-use Rattle.variation_rules.proofs.packed.run_deltas_at.Given as goal
-
-abbrev pub invariant-loop : goal.invariant-loop
-invariant-loop l = with_front l.values (many (delta_at l.class) (l.count - l.counter) l.rest) ≡ many (delta_at l.class) l.count l.bytes

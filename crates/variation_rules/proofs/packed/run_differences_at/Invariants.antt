@@ -1,8 +1,0 @@
-use Rattle.std.proofs.Common.{◌≡◌, ◌-◌}
-use Rattle.variation_rules.specs.Decoding.{many}
-use Rattle.variation_rules.specs.DecodingPoints.{difference_at}
-use Rattle.variation_rules.proofs.DecodingLoops.{with_front}
-use Rattle.variation_rules.proofs.packed.run_differences_at.Given as goal
-
-abbrev pub invariant-loop : goal.invariant-loop
-invariant-loop l = with_front l.differences (many (difference_at l.class) (l.count - l.counter) l.rest) ≡ many (difference_at l.class) l.count l.bytes

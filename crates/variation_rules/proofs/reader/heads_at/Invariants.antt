@@ -1,8 +1,0 @@
-use Rattle.std.proofs.Common.{◌≡◌, ◌-◌}
-use Rattle.variation_rules.specs.Decoding.{many}
-use Rattle.variation_rules.specs.DecodingTuples.{header_at}
-use Rattle.variation_rules.proofs.DecodingLoops.{with_front}
-use Rattle.variation_rules.proofs.reader.heads_at.Given as goal
-
-abbrev pub invariant-loop : goal.invariant-loop
-invariant-loop l = with_front l.heads (many (header_at l.axes l.peaks) (l.count - l.counter) l.rest) ≡ many (header_at l.axes l.peaks) l.count l.bytes

@@ -1,7 +1,0 @@
-use Rattle.std.proofs.Common.{◌≡◌, drop}
-use Rattle.variation_rules.specs.DecodingTuples.{tuples_at}
-use Rattle.variation_rules.proofs.DecodingLoops.{with_front}
-use Rattle.variation_rules.proofs.reader.tuples_at.Given as goal
-
-abbrev pub invariant-loop-head : goal.invariant-loop-head
-invariant-loop-head l = with_front l.tuples (tuples_at l.total l.shared (drop l.head-index l.heads) l.rest) ≡ tuples_at l.total l.shared l.heads l.bytes
