@@ -32,7 +32,7 @@ pub enum Kind {
     Curve = 13,
     /// A contour isn't closed.
     OpenContour = 14,
-    /// A point at the end of a line stands behind a point off the curve.
+    /// A point at the end of a line stands after a point off the curve.
     LineAfterOff = 15,
     /// A contour or a glyph has more points than the limit.
     TooManyPoints = 16,

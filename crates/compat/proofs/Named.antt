@@ -43,8 +43,8 @@ pub base_found : (number : List ℕ → Option ℕ) (drawing : Drawing) (items :
     → (bases new_bases : List ℕ) → bases ≡ filter_map (λ (component : Component). number component.base) (take i drawing.components) → new_bases ≡ bases ++ n ∷ []
     → (new_bases ≡ filter_map (λ (component : Component). number component.base) (take (i + 1) drawing.components))
     × (position_from (λ (component : Component). is_none (number component.base)) (i + 1) (drop (i + 1) drawing.components) ≡ dangling_in number drawing)
-base_found number drawing items i component n same less is some before bases new_bases front longer = (
-  longer ∙ ap (λ b. b ++ n ∷ []) (front ∙ ap (λ items. filter_map (λ (component : Component). number component.base) (take i items)) (sym same))
+base_found number drawing items i component n same less is some before bases new_bases prefix longer = (
+  longer ∙ ap (λ b. b ++ n ∷ []) (prefix ∙ ap (λ items. filter_map (λ (component : Component). number component.base) (take i items)) (sym same))
       ∙ sym (filter_map_more (λ (component : Component). number component.base) items i component n less is (sym some))
       ∙ ap (λ items. filter_map (λ (component : Component). number component.base) (take (i + 1) items)) same,
   ap (λ items. position_from (λ (component : Component). is_none (number component.base)) (i + 1) (drop (i + 1) items)) (sym same)
@@ -63,9 +63,9 @@ named_more drawings i next drawing bytes follows less named old new name updated
     ∙ ap (λ b. cond (bytes_eq b name) (Some i) (position_from (λ (drawing : Drawing). bytes_eq drawing.name name) (i + 1) (drop (i + 1) drawings))) named
     ∙ sym (at_drop_more (position_from (λ (drawing : Drawing). bytes_eq drawing.name name) i) drawings i drawing less)
 
-pub dangling_here : (number : List ℕ → Option ℕ) (drawings : List Drawing) (i place : ℕ) (drawing : Drawing) → i < length drawings → drawing ≡ get_or drawings i drawing → dangling_in number drawing ≡ Some place
-    → dangling_from number i (drop i drawings) ≡ Some (dangling_refusal i place)
-dangling_here number drawings i place drawing less is found =
+pub dangling_here : (number : List ℕ → Option ℕ) (drawings : List Drawing) (i index : ℕ) (drawing : Drawing) → i < length drawings → drawing ≡ get_or drawings i drawing → dangling_in number drawing ≡ Some index
+    → dangling_from number i (drop i drawings) ≡ Some (dangling_refusal i index)
+dangling_here number drawings i index drawing less is found =
     at_drop_more (dangling_from number i) drawings i drawing less ∙ rw (← is, found) refl
 
 pub dangling_later : (number : List ℕ → Option ℕ) (drawings : List Drawing) (i : ℕ) (drawing : Drawing) → i < length drawings → drawing ≡ get_or drawings i drawing → dangling_in number drawing ≡ None

@@ -64,9 +64,9 @@ abbrev pub joint_count : List Flat → List (List Point) → List ℕ → ℕ
 joint_count flats own bases = min (shown_count own + sum_by (λ base. flat_count (flat_at flats base)) bases) 1000000000
 
 -- the kept contours of the bases, moved, component by component
-abbrev pub placed_contours : List Flat → List Component → List ℕ → List (List Point)
-placed_contours flats (component ∷ components) (base ∷ bases) = moved_contours component (flat_contours (flat_at flats base)) ++ placed_contours flats components bases
-placed_contours flats _ _ = []
+abbrev pub drawn_contours : List Flat → List Component → List ℕ → List (List Point)
+drawn_contours flats (component ∷ components) (base ∷ bases) = moved_contours component (flat_contours (flat_at flats base)) ++ drawn_contours flats components bases
+drawn_contours flats _ _ = []
 
 abbrev pub AreMovable : List Flat → List Component → List ℕ → Type 0
 AreMovable flats (component ∷ components) (base ∷ bases) = All (All (CanMove component)) (flat_contours (flat_at flats base)) × AreMovable flats components bases
@@ -75,7 +75,7 @@ AreMovable flats _ _ = Unit {0}
 abbrev pub joined_flat : List Flat → Drawing → List ℕ → Flat
 joined_flat flats drawing bases =
     if nat_le (joint_count flats drawing.outline.contours bases) 4000
-    then Few (drawing.outline.contours ++ placed_contours flats drawing.components bases)
+    then Few (drawing.outline.contours ++ drawn_contours flats drawing.components bases)
     else Many (joint_count flats drawing.outline.contours bases)
 
 -- something is kept of every drawing

@@ -2,7 +2,7 @@
 
 ghost use Rattle.std.specs.Prelude.{◌≡◌, ◌++◌, length, map, All, IfOk, OnOk, ◌<◌};
 ghost use Rattle.compat.specs.Flattened.{moved, moved_contours, shown_count};
-ghost use Rattle.compat.specs.Flats.{CanMove, flat_at, flat_contours, flat_count, joint_count, placed_contours, AreMovable, joined_flat, IsFew};
+ghost use Rattle.compat.specs.Flats.{CanMove, flat_at, flat_contours, flat_count, joint_count, drawn_contours, AreMovable, joined_flat, IsFew};
 
 use glif::{Component, Drawing, Point};
 use basics::{NoMemory, Seq};
@@ -111,7 +111,7 @@ fn moved_contour(
 }
 
 /// Adds contours moved by a component's offset.
-fn place(
+fn index(
     alloc: Global,
     contours: &mut Vec<Seq<Point>>,
     component: &Component,
@@ -137,7 +137,7 @@ fn copied(alloc: Global, contours: &[Seq<Point>]) -> Result<Vec<Seq<Point>>, NoM
     Ok(copy)
 }
 
-/// A drawing's own contours and behind them those of its bases, moved by the components' offsets, where they have
+/// A drawing's own contours and after them those of its bases, moved by the components' offsets, where they have
 /// at most 4,000 points in all, and else their count. `bases` has the number of each component's base.
 pub(crate) fn joined(
     alloc: Global,
@@ -157,7 +157,7 @@ pub(crate) fn joined(
     }
     let mut contours = copied(alloc, own)?;
     for (number, component) in drawing.components.as_slice().iter().enumerate() {
-        place(
+        index(
             alloc,
             &mut contours,
             component,

@@ -36,10 +36,10 @@ fn base_numbers(
     ensures { IfOk result (λ found. MatchResult found (λ bases. (bases ≡ base_numbers (number_in numbers.now) drawing.now) × (dangling_in (number_in numbers.now) drawing.now ≡ None)) (λ component. dangling_in (number_in numbers.now) drawing.now ≡ Some component)) }
 {
     let mut bases = Vec::new(alloc);
-    for (place, component) in drawing.components.as_slice().iter().enumerate() {
+    for (index, component) in drawing.components.as_slice().iter().enumerate() {
         match number_of(numbers, &component.base) {
             Some(number) => bases.push(number)?,
-            None => return Ok(Err(place)),
+            None => return Ok(Err(index)),
         }
     }
     Ok(Ok(Seq::from_vec(bases)))

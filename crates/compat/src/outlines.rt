@@ -204,7 +204,7 @@ fn stop_of(alloc: Global, drawings: &[Drawing], refusal: Refusal) -> Stop
     }
 }
 
-/// The flattened outline of each drawing of one source: its own contours, and behind them, component by component,
+/// The flattened outline of each drawing of one source: its own contours, and after them, component by component,
 /// the flattened outline of the base, moved by the component's offset (UFO 3, "GLIF", "component"). The advance
 /// width is the drawing's own. A base is the drawing of that name, the first where there are more.
 ///

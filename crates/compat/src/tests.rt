@@ -322,7 +322,7 @@ fn counts(rt: HostRuntime) -> Result<(), Fail> {
     Ok(())
 }
 
-/// Drawings of which each has the one behind it as a component, moved to the right by a step; the last has one
+/// Drawings of which each has the one after it as a component, moved to the right by a step; the last has one
 /// point.
 fn chain(alloc: Global, last: u32, step: i32) -> Result<Seq<Drawing>, NoMemory> {
     let mut drawings = Seq::new(alloc);

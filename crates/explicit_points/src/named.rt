@@ -10,9 +10,9 @@ use basics::{NoMemory, Seq};
 use std::alloc::Global;
 
 /// The points that a tuple variation of a glyph names: on each contour the least set of points from which all
-/// its deltas are inferred, and behind them the phantom points that move. `lengths` are the numbers of points
+/// its deltas are inferred, and after them the phantom points that move. `lengths` are the numbers of points
 /// of the contours, `points` the outline's points in the default drawing, at most 4,000, and `deltas` those of
-/// all points, the four phantom points behind the outline's, all of 16 bits. They rise; there is none exactly
+/// all points, the four phantom points after the outline's, all of 16 bits. They rise; there is none exactly
 /// where nothing moves.
 pub fn explicit_points(
     alloc: Global,

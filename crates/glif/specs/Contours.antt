@@ -56,7 +56,7 @@ abbrev pub points_of : List Tree → Result (List Point) Spot
 points_of [] = Ok []
 points_of (tree ∷ trees) = point_of true tree >>= λ point. each (point_of false) trees >>= λ points. Ok (point ∷ points)
 
--- ---- what is tested of a contour behind its points
+-- ---- what is tested of a contour after its points
 
 abbrev pub starts_with_move : List Tree → Bool
 starts_with_move [] = false

@@ -4,6 +4,6 @@ pub mod Contours
 pub mod FirstOutside
 pub mod Glyphs
 pub mod Limits
-pub mod Plain
+pub mod Printed
 pub mod Shapes
 pub mod Texts

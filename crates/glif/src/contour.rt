@@ -130,7 +130,7 @@ fn starts_with_move(elements: &[Element]) -> bool
     }
 }
 
-/// Whether the last point is on the curve, behind which the first one follows.
+/// Whether the last point is on the curve, after which the first one follows.
 fn ends_on(points: &[Point]) -> bool
     ensures { result ≡ ends_on points.now }
 {

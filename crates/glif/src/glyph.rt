@@ -208,12 +208,12 @@ fn read_drawing(alloc: Global, tree: &Element) -> Result<Drawing, Stop>
 /// 4. the elements of a contour in their order: NotGlif at one that is no `point`; MissingAttribute of the item
 ///    `x`, the number `x`, and the same of `y`; then the type: Curve where it is `curve`, NotGlif where it is
 ///    `move` and the point isn't the first, or another text;
-/// 5. behind its points the contour: TooManyPoints where there are more than 1,024, with their number as `first`;
-///    OpenContour where the first point is a `move`; LineAfterOff at the first `line` that stands behind a point
+/// 5. after its points the contour: TooManyPoints where there are more than 1,024, with their number as `first`;
+///    OpenContour where the first point is a `move`; LineAfterOff at the first `line` that stands after a point
 ///    off the curve, where the last point stands before the first;
 /// 6. a component: MissingAttribute of the item `base`; `xScale`, `yScale`, `xyScale` and `yxScale`, each the number
 ///    and then ScaledComponent where it has another value; the numbers `xOffset` and `yOffset`;
-/// 7. behind its elements the outline: TooManyPoints where its contours have more than 4,000 in all, with their
+/// 7. after its elements the outline: TooManyPoints where its contours have more than 4,000 in all, with their
 ///    number as `first`.
 pub fn read(alloc: Global, tree: &Element) -> Result<Drawing, Stop>
     // Which drawing it is, and which fault.

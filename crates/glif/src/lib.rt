@@ -15,7 +15,7 @@ mod shape;
 pub use glyph::read;
 pub use laws::limits_law;
 pub use limits::{coordinate_outside, within};
-pub use plain::plain_law;
+pub use plain::printing_law;
 pub use shape::{Component, Drawing, Outline, Point};
 
 #[cfg(test)]

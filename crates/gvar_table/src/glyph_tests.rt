@@ -1,5 +1,5 @@
 use crate::conditions::are_tuples_of;
-use crate::{Tuple, glyph_data, one_spelling};
+use crate::{Tuple, glyph_data, spelling_law};
 use arrayvec::ArrayVec;
 use fixpoint::{Fix, Pair};
 use basics::{NoMemory, Seq};
@@ -9,7 +9,7 @@ use variation_decoder::read_tuples;
 use variation_rules::{Triple, TupleVariation};
 
 /// A tuple: start, peak and end of each axis, and the points, each with its number and its delta.
-pub(crate) struct Plain {
+pub(crate) struct Expected {
     pub(crate) region: &'static [(i32, i32, i32)],
     pub(crate) points: &'static [(u16, i32, i32)],
 }
@@ -19,7 +19,7 @@ struct Case {
     name: &'static str,
     axes: u16,
     count: u16,
-    tuples: &'static [Plain],
+    tuples: &'static [Expected],
     bytes: &'static [u8],
 }
 
@@ -35,7 +35,7 @@ const CASES: [Case; 8] = [
         name: "all points, the phantom points don't move",
         axes: 1,
         count: 7,
-        tuples: &[Plain {
+        tuples: &[Expected {
             region: &[(0, 16384, 16384)],
             points: &[
                 (0, 50, 0),
@@ -56,7 +56,7 @@ const CASES: [Case; 8] = [
         name: "the second phantom point alone",
         axes: 1,
         count: 4,
-        tuples: &[Plain {
+        tuples: &[Expected {
             region: &[(0, 16384, 16384)],
             points: &[(1, 60, 0)],
         }],
@@ -69,7 +69,7 @@ const CASES: [Case; 8] = [
         name: "two points of four",
         axes: 1,
         count: 8,
-        tuples: &[Plain {
+        tuples: &[Expected {
             region: &[(0, 16384, 16384)],
             points: &[(0, 0, 0), (1, 50, 0)],
         }],
@@ -82,7 +82,7 @@ const CASES: [Case; 8] = [
         name: "a negative peak, and deltas of words",
         axes: 1,
         count: 5,
-        tuples: &[Plain {
+        tuples: &[Expected {
             region: &[(-16384, -16384, 0)],
             points: &[(0, -200, 300)],
         }],
@@ -95,7 +95,7 @@ const CASES: [Case; 8] = [
         name: "a region between the default and the end, on the first of two axes",
         axes: 2,
         count: 5,
-        tuples: &[Plain {
+        tuples: &[Expected {
             region: &[(0, 8192, 16384), (0, 0, 0)],
             points: &[(0, 10, -10)],
         }],
@@ -109,7 +109,7 @@ const CASES: [Case; 8] = [
         name: "a region that ends early, on the second of two axes",
         axes: 2,
         count: 5,
-        tuples: &[Plain {
+        tuples: &[Expected {
             region: &[(0, 16384, 16384), (-12288, -8192, -4096)],
             points: &[(4, 1, 2)],
         }],
@@ -123,11 +123,11 @@ const CASES: [Case; 8] = [
         axes: 1,
         count: 4,
         tuples: &[
-            Plain {
+            Expected {
                 region: &[(0, 8192, 16384)],
                 points: &[(1, 60, 0)],
             },
-            Plain {
+            Expected {
                 region: &[(0, 16384, 16384)],
                 points: &[(0, 0, 1), (1, 2, 0), (2, 0, 0), (3, 0, 0)],
             },
@@ -142,9 +142,9 @@ const CASES: [Case; 8] = [
 ];
 
 /// The tuple that a plain one tells.
-fn tuple_of(alloc: Global, plain: &Plain) -> Result<Tuple, NoMemory> {
+fn tuple_of(alloc: Global, expected: &Expected) -> Result<Tuple, NoMemory> {
     let mut support = ArrayVec::new();
-    for &(start, peak, end) in plain.region {
+    for &(start, peak, end) in expected.region {
         if support.len() < 8 {
             support.push(Triple {
                 start: Fix::from_raw(start),
@@ -155,7 +155,7 @@ fn tuple_of(alloc: Global, plain: &Plain) -> Result<Tuple, NoMemory> {
     }
     let mut points = Seq::new(alloc);
     let mut deltas = Seq::new(alloc);
-    for &(point, x, y) in plain.points {
+    for &(point, x, y) in expected.points {
         points.push(point)?;
         deltas.push(Pair { x, y })?;
     }
@@ -167,9 +167,9 @@ fn tuple_of(alloc: Global, plain: &Plain) -> Result<Tuple, NoMemory> {
 }
 
 /// The tuples that plain ones tell.
-pub(crate) fn tuples_of(alloc: Global, plain: &[Plain]) -> Result<Seq<Tuple>, NoMemory> {
+pub(crate) fn tuples_of(alloc: Global, expected: &[Expected]) -> Result<Seq<Tuple>, NoMemory> {
     let mut tuples = Seq::new(alloc);
-    for tuple in plain {
+    for tuple in expected {
         tuples.push(tuple_of(alloc, tuple)?)?;
     }
     Ok(tuples)
@@ -263,5 +263,5 @@ fn as_many_points_as_there_may_be(rt: HostRuntime) -> Result<(), Fail> {
 
 #[test]
 fn one_spelling_is_a_law() {
-    one_spelling();
+    spelling_law();
 }

@@ -12,13 +12,13 @@ ghost use Rattle.basics.specs.Bytes.{after_run};
 use crate::bytes::{after_blanks, starts_blank};
 use crate::content::content_of;
 use crate::names::name_at;
-use crate::searches::place_of;
+use crate::searches::index_of;
 use crate::text::Text;
 use basics::{Name, NoMemory, Seq};
 use std::alloc::Global;
 use std::collections::BTreeSet;
 
-/// What follows the blanks at the front, one at least.
+/// What follows the blanks at the start, one at least.
 #[tactic(auto, unfolding(markup_rules::specs::Reading::blank_at))]
 fn blank_at(bytes: &[u8]) -> Option<&[u8]>
     ensures { Agrees (λ rest. rest.now) result (rules.blank_at bytes.now) }
@@ -30,7 +30,7 @@ fn blank_at(bytes: &[u8]) -> Option<&[u8]>
     }
 }
 
-/// What follows the `=` at the front.
+/// What follows the `=` at the start.
 #[tactic(auto, unfolding(markup_rules::specs::Reading::equals_at))]
 fn equals_at(bytes: &[u8]) -> Option<&[u8]>
     ensures { Agrees (λ rest. rest.now) result (rules.equals_at bytes.now) }
@@ -41,7 +41,7 @@ fn equals_at(bytes: &[u8]) -> Option<&[u8]>
     }
 }
 
-/// What stands between the quote at the front and the next equal one, and what follows that.
+/// What stands between the quote at the start and the next equal one, and what follows that.
 #[tactic(auto, unfolding(markup_rules::specs::Reading::quoted_at))]
 fn quoted_at(bytes: &[u8]) -> Option<(&[u8], &[u8])>
     ensures { Agrees (λ found. (found.0.now, found.1.now)) result (rules.quoted_at bytes.now) }
@@ -50,7 +50,7 @@ fn quoted_at(bytes: &[u8]) -> Option<(&[u8], &[u8])>
         [] => None,
         [quote, rest @ ..] => {
             if *quote == b'"' || *quote == b'\'' {
-                let end = place_of(*quote, rest)?;
+                let end = index_of(*quote, rest)?;
                 Some((&rest[..end], &rest[end + 1..]))
             } else {
                 None
@@ -59,7 +59,7 @@ fn quoted_at(bytes: &[u8]) -> Option<(&[u8], &[u8])>
     }
 }
 
-/// The value between quotes at the front, and what follows it.
+/// The value between quotes at the start, and what follows it.
 #[tactic(auto, unfolding(markup_rules::specs::Reading::value_at))]
 fn value_at(alloc: Global, bytes: &[u8]) -> Result<Option<(Text<'_>, &[u8])>, NoMemory>
     ensures { IfOk result (λ found. Agrees (λ value. (text_bytes value.0, value.1.now)) found (rules.value_at bytes.now)) }
@@ -91,7 +91,7 @@ pub(crate) struct Attribute<'a> {
     value: Text<'a>,
 }
 
-/// The attribute at the front, behind a blank at least, and what follows it.
+/// The attribute at the start, after a blank at least, and what follows it.
 #[tactic(auto, unfolding(markup_rules::specs::Reading::attribute_at))]
 fn attribute_at(alloc: Global, bytes: &[u8]) -> Result<Option<(Attribute<'_>, &[u8])>, NoMemory>
     ensures { IfOk result (λ found. Agrees (λ a. (attribute_view a.0, a.1.now)) found (rules.attribute_at bytes.now)) }
@@ -202,7 +202,7 @@ fn is_tag_end(bytes: &[u8]) -> bool
     rest.is_empty() || is_slash(rest)
 }
 
-/// The attributes at the front, of those with one name the first, and what ends their tag.
+/// The attributes at the start, of those with one name the first, and what ends their tag.
 pub(crate) fn attributes_at(
     alloc: Global,
     bytes: &[u8],

@@ -19,8 +19,8 @@ pub(crate) fn is_character(byte: u8) -> bool
 }
 
 /// Whether the byte stands for itself in content.
-pub(crate) fn is_plain(byte: u8) -> bool
-    ensures { result ≡ rules.is_plain byte }
+pub(crate) fn is_literal(byte: u8) -> bool
+    ensures { result ≡ rules.is_literal byte }
 {
     is_character(byte) && byte != b'<' && byte != b'&'
 }
@@ -39,7 +39,7 @@ pub(crate) fn is_name_byte(byte: u8) -> bool
     is_name_start(byte) || byte.is_ascii_digit() || byte == b'-' || byte == b'.'
 }
 
-/// Whether the byte may stand in a document type behind its keyword.
+/// Whether the byte may stand in a document type after its keyword.
 fn is_doctype_byte(byte: u8) -> bool
     ensures { result ≡ rules.is_doctype_byte byte }
 {
@@ -78,7 +78,7 @@ pub(crate) fn are_blanks(bytes: &[u8]) -> bool
     bytes.iter().all(|byte| is_blank(*byte))
 }
 
-/// Whether a blank stands at the front.
+/// Whether a blank stands at the start.
 pub(crate) fn starts_blank(bytes: &[u8]) -> bool
     ensures { result ≡ rules.starts_blank bytes.now }
 {
@@ -88,7 +88,7 @@ pub(crate) fn starts_blank(bytes: &[u8]) -> bool
     }
 }
 
-/// Whether a byte with which names begin stands at the front.
+/// Whether a byte with which names begin stands at the start.
 pub(crate) fn starts_name(bytes: &[u8]) -> bool
     ensures { result ≡ rules.starts_name bytes.now }
 {
@@ -105,67 +105,67 @@ fn are_doctype_bytes(bytes: &[u8]) -> bool
     bytes.iter().all(|byte| is_doctype_byte(*byte))
 }
 
-/// Whether the bytes are what stands in a document type behind its keyword.
+/// Whether the bytes are what stands in a document type after its keyword.
 pub(crate) fn is_doctype(bytes: &[u8]) -> bool
     ensures { result ≡ rules.is_doctype bytes.now }
 {
     starts_blank(bytes) && are_doctype_bytes(bytes) && is_utf8(bytes)
 }
 
-/// The bytes without the blanks at their front.
+/// The bytes without the blanks at their prefix.
 pub(crate) fn after_blanks(bytes: &[u8]) -> &[u8]
     ensures { result.now ≡ after_run runs.is_blank bytes.now }
 {
-    for (place, byte) in bytes.iter().enumerate() {
+    for (index, byte) in bytes.iter().enumerate() {
         if !is_blank(*byte) {
-            return &bytes[place..];
+            return &bytes[index..];
         }
     }
     &[]
 }
 
-/// How many bytes of names stand at the front.
+/// How many bytes of names stand at the start.
 fn name_length(bytes: &[u8]) -> usize
     ensures count { result ≡ length (run_at rules.is_name_byte bytes.now) }
     ensures within { result ≤ length bytes.now }
 {
-    for (place, byte) in bytes.iter().enumerate() {
+    for (index, byte) in bytes.iter().enumerate() {
         if !is_name_byte(*byte) {
-            return place;
+            return index;
         }
     }
     bytes.len()
 }
 
-/// The bytes of names at the front, and what follows them.
-#[tactic(auto, using(basics::proofs::Runs::front_of_run, basics::proofs::Runs::rest_of_run))]
+/// The bytes of names at the start, and what follows them.
+#[tactic(auto, using(basics::proofs::Runs::prefix_of_run, basics::proofs::Runs::rest_of_run))]
 pub(crate) fn split_name(bytes: &[u8]) -> (&[u8], &[u8])
-    ensures front { result.0.now ≡ run_at rules.is_name_byte bytes.now }
+    ensures prefix { result.0.now ≡ run_at rules.is_name_byte bytes.now }
     ensures rest { result.1.now ≡ after_run rules.is_name_byte bytes.now }
 {
-    let (front, rest) = bytes.split_at(name_length(bytes));
-    (front, rest)
+    let (prefix, rest) = bytes.split_at(name_length(bytes));
+    (prefix, rest)
 }
 
-/// How many bytes that stand for themselves are at the front.
-fn plain_length(bytes: &[u8]) -> usize
-    ensures count { result ≡ length (run_at rules.is_plain bytes.now) }
+/// How many bytes that stand for themselves are at the start.
+fn literal_length(bytes: &[u8]) -> usize
+    ensures count { result ≡ length (run_at rules.is_literal bytes.now) }
     ensures within { result ≤ length bytes.now }
 {
-    for (place, byte) in bytes.iter().enumerate() {
-        if !is_plain(*byte) {
-            return place;
+    for (index, byte) in bytes.iter().enumerate() {
+        if !is_literal(*byte) {
+            return index;
         }
     }
     bytes.len()
 }
 
-/// The bytes at the front that stand for themselves, and what follows them.
-#[tactic(auto, using(basics::proofs::Runs::front_of_run, basics::proofs::Runs::rest_of_run))]
-pub(crate) fn split_plain(bytes: &[u8]) -> (&[u8], &[u8])
-    ensures front { result.0.now ≡ run_at rules.is_plain bytes.now }
-    ensures rest { result.1.now ≡ after_run rules.is_plain bytes.now }
+/// The bytes at the start that stand for themselves, and what follows them.
+#[tactic(auto, using(basics::proofs::Runs::prefix_of_run, basics::proofs::Runs::rest_of_run))]
+pub(crate) fn split_literal(bytes: &[u8]) -> (&[u8], &[u8])
+    ensures prefix { result.0.now ≡ run_at rules.is_literal bytes.now }
+    ensures rest { result.1.now ≡ after_run rules.is_literal bytes.now }
 {
-    let (front, rest) = bytes.split_at(plain_length(bytes));
-    (front, rest)
+    let (prefix, rest) = bytes.split_at(literal_length(bytes));
+    (prefix, rest)
 }

@@ -8,7 +8,7 @@ use crate::bytes::{after_blanks, are_blanks, is_doctype, is_text};
 use crate::content::content_of;
 use crate::items::Item;
 use crate::names::name_at;
-use crate::searches::{begins, first_place};
+use crate::searches::{begins, first_index};
 use crate::text::Text;
 use basics::{Name, NoMemory, Seq};
 use std::alloc::Global;
@@ -68,7 +68,7 @@ fn start_tag(alloc: Global, body: &[u8]) -> Result<Markup<'_>, NoMemory>
     }
 }
 
-/// A tag that ends an element, behind its `/`.
+/// A tag that ends an element, after its `/`.
 #[tactic(auto, unfolding(markup_rules::specs::Reading::end_tag))]
 fn end_tag(body: &[u8]) -> Markup<'_>
     ensures { markup_view result ≡ unwrap_or (rules.end_tag body.now) bad }
@@ -119,7 +119,7 @@ fn data_markup(alloc: Global, bytes: &[u8]) -> Result<Markup<'_>, NoMemory>
 fn comment_markup(body: &[u8]) -> Markup<'_>
     ensures { markup_view result ≡ rules.comment_markup body.now }
 {
-    if first_place(b"--", body).is_none() && is_text(body) {
+    if first_index(b"--", body).is_none() && is_text(body) {
         Markup::Aside
     } else {
         Markup::Bad

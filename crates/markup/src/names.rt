@@ -4,7 +4,7 @@ ghost use Rattle.basics.specs.Optional.{Agrees};
 
 use crate::bytes::{split_name, starts_name};
 
-/// The name at the front, and what follows it: an ASCII letter, `_`, `:` or a character past ASCII, and
+/// The name at the start, and what follows it: an ASCII letter, `_`, `:` or a character past ASCII, and
 /// then these, ASCII digits, `-` and `.`, as many as stand there.
 #[tactic(auto, using(markup_rules::proofs::Utf8::utf8_true, markup_rules::proofs::Utf8::utf8_false), unfolding(markup_rules::specs::Reading::name_at))]
 pub(crate) fn name_at(bytes: &[u8]) -> Option<(&str, &[u8])>

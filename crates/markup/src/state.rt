@@ -1,7 +1,7 @@
 ghost use Rattle.std.specs.Prelude.{◌≡◌, ◌-◌, ◌≤◌, pos, length, MatchResult, OnOk, IfOk, is_some, string_bytes, ◌++◌, ◌∷◌, [], Ok, Err};
 ghost use Rattle.basics.specs.Reading.{Fails, Gives, IsStop};
 ghost use Rattle.markup_rules.specs.Faults.{is_allowed_at, is_innermost, lacks_end, spot};
-ghost use Rattle.markup_rules.specs.Outcome.{adopted, begun, changed, closed, initial, place_of_state, root_or_fault, step, texted};
+ghost use Rattle.markup_rules.specs.Outcome.{adopted, begun, changed, closed, initial, context_of, root_or_fault, step, texted};
 ghost use Rattle.markup.specs.Plain.{plain};
 ghost use Rattle.markup.specs.Views.{item_view, markup_view, opening_view, text_bytes};
 ghost use Rattle.markup.specs.States.{entry_of, frame_of, state_of};
@@ -125,7 +125,7 @@ impl<'a> State<'a> {
 
     /// Whether the innermost open element has this name.
     fn is_innermost(&self, name: &str) -> bool
-        ensures { result ≡ is_innermost name.now (place_of_state (state_of self.now)).names }
+        ensures { result ≡ is_innermost name.now (context_of (state_of self.now)).names }
     {
         match &self.innermost {
             Some(open) => name == open.name.as_str(),
@@ -135,7 +135,7 @@ impl<'a> State<'a> {
 
     /// Whether an item is of a right form and may stand here.
     fn allows(&self, markup: &Markup<'_>) -> bool
-        ensures { result ≡ is_allowed_at (place_of_state (state_of self.now)) (markup_view markup.now) }
+        ensures { result ≡ is_allowed_at (context_of (state_of self.now)) (markup_view markup.now) }
     {
         match markup {
             Markup::Start(_) => self.root.is_none(),
@@ -152,7 +152,7 @@ impl<'a> State<'a> {
 
     /// Whether an item of this form isn't ended here.
     fn lacks_end(&self, item: Item<'_>) -> bool
-        ensures { result ≡ lacks_end (place_of_state (state_of self.now)) (item_view item.entry) }
+        ensures { result ≡ lacks_end (context_of (state_of self.now)) (item_view item.entry) }
     {
         match item {
             Item::Unended => true,
@@ -230,7 +230,7 @@ impl<'a> State<'a> {
         }
     }
 
-    /// Takes the item at the front of `rest`, which is the end of a text of `total` bytes, or stops at its
+    /// Takes the item at the start of `rest`, which is the end of a text of `total` bytes, or stops at its
     /// fault, by the order of the tests.
     pub(crate) fn step(
         &mut self,

@@ -25,20 +25,20 @@ abbrev no_more_but : List Named → List ℕ → Option (List Named × List ℕ)
 no_more_but all rest = Some (all, rest)
 
 -- those kept and those to come
-abbrev behind : List Named → Option (List Named × List ℕ) → Option (List Named × List ℕ)
-behind kept found = found >>= λ f. Some (kept ++ firsts (names_of kept) f.0, f.1)
+abbrev after : List Named → Option (List Named × List ℕ) → Option (List Named × List ℕ)
+after kept found = found >>= λ f. Some (kept ++ firsts (names_of kept) f.0, f.1)
 
-unfoldable pub attributes_behind : List (List ℕ × List ℕ) → List ℕ → Option (List (List ℕ × List ℕ) × List ℕ)
-attributes_behind kept bytes = behind kept (many is_tag_end attribute_at bytes)
+unfoldable pub attributes_after : List (List ℕ × List ℕ) → List ℕ → Option (List (List ℕ × List ℕ) × List ℕ)
+attributes_after kept bytes = after kept (many is_tag_end attribute_at bytes)
 
-pub attributes_begin : (bytes : List ℕ) → attributes_behind [] bytes ≡ attributes_at bytes
-unfolding attributes_behind attributes_at
+pub attributes_begin : (bytes : List ℕ) → attributes_after [] bytes ≡ attributes_at bytes
+unfolding attributes_after attributes_at
 attributes_begin bytes = refl
 
-pub attributes_done : (kept : List Named) (bytes : List ℕ) → is_tag_end bytes ≡ true → attributes_behind kept bytes ≡ Some (kept, bytes)
-unfolding attributes_behind
+pub attributes_done : (kept : List Named) (bytes : List ℕ) → is_tag_end bytes ≡ true → attributes_after kept bytes ≡ Some (kept, bytes)
+unfolding attributes_after
 attributes_done kept bytes end =
-    ap (behind kept) (many_next is_tag_end attribute_at attribute_shortens bytes ∙ ap (many_by is_tag_end attribute_at bytes) end) ∙ ap (λ all. no_more_but all bytes) (append-nil kept)
+    ap (after kept) (many_next is_tag_end attribute_at attribute_shortens bytes ∙ ap (many_by is_tag_end attribute_at bytes) end) ∙ ap (λ all. no_more_but all bytes) (append-nil kept)
 
 seen_step : (kept : List Named) (a : Named) (later : List Named) (rest : List ℕ) (seen : Bool)
     → (let found : Option (List Named × List ℕ) = Some (cond seen kept (kept ++ a ∷ []) ++ firsts (names_of (cond seen kept (kept ++ a ∷ []))) later, rest) in found)
@@ -48,20 +48,20 @@ seen_step kept a later rest false =
     ap (λ all. no_more_but all rest)
     (ap (λ seen. (kept ++ a ∷ []) ++ firsts seen later) (map-append (λ (a : Named). a.0) kept (a ∷ [])) ∙ append_assoc kept (a ∷ []) (firsts (names_of kept ++ a.0 ∷ []) later))
 
-one_more : (kept : List Named) (a : Named) (found : Option (List Named × List ℕ)) → behind (with_attribute a kept) found ≡ behind kept (with_first a found)
+one_more : (kept : List Named) (a : Named) (found : Option (List Named × List ℕ)) → after (with_attribute a kept) found ≡ after kept (with_first a found)
 one_more kept a (Some f) = seen_step kept a f.0 f.1 (list_any (bytes_eq a.0) (names_of kept))
 one_more kept a None = refl
 
-pub attributes_step : (kept : List Named) (bytes : List ℕ) (a : Named) (rest : List ℕ) → is_tag_end bytes ≡ false → attribute_at bytes ≡ Some (a, rest) → attributes_behind (with_attribute a kept) rest ≡ attributes_behind kept bytes
-unfolding attributes_behind
+pub attributes_step : (kept : List Named) (bytes : List ℕ) (a : Named) (rest : List ℕ) → is_tag_end bytes ≡ false → attribute_at bytes ≡ Some (a, rest) → attributes_after (with_attribute a kept) rest ≡ attributes_after kept bytes
+unfolding attributes_after
 attributes_step kept bytes a rest more found =
     let whole = many_next is_tag_end attribute_at attribute_shortens bytes ∙ (ap (many_by is_tag_end attribute_at bytes) more ∙ ap (λ o. o >>= λ x. with_first x.0 (many is_tag_end attribute_at x.1)) found) in
-    one_more kept a (many is_tag_end attribute_at rest) ∙ sym (ap (behind kept) whole)
+    one_more kept a (many is_tag_end attribute_at rest) ∙ sym (ap (after kept) whole)
 
-pub attributes_none : (kept : List Named) (bytes : List ℕ) → is_tag_end bytes ≡ false → attribute_at bytes ≡ None → attributes_behind kept bytes ≡ None
-unfolding attributes_behind
+pub attributes_none : (kept : List Named) (bytes : List ℕ) → is_tag_end bytes ≡ false → attribute_at bytes ≡ None → attributes_after kept bytes ≡ None
+unfolding attributes_after
 attributes_none kept bytes more none =
-    ap (behind kept) (many_next is_tag_end attribute_at attribute_shortens bytes ∙ (ap (many_by is_tag_end attribute_at bytes) more ∙ ap (λ o. o >>= λ x. with_first x.0 (many is_tag_end attribute_at x.1)) none))
+    ap (after kept) (many_next is_tag_end attribute_at attribute_shortens bytes ∙ (ap (many_by is_tag_end attribute_at bytes) more ∙ ap (λ o. o >>= λ x. with_first x.0 (many is_tag_end attribute_at x.1)) none))
 
 shorter_found : (bytes : List ℕ) (found : Option (Named × List ℕ)) (a : Named) (rest : List ℕ) → IfSome found (λ r. length r.1 < length bytes) → (let o : Option (Named × List ℕ) = Some (a, rest) in found ≡ o) → length rest < length bytes
 shorter_found bytes (Some p) a rest below e =

@@ -6,9 +6,9 @@ use Rattle.std.specs.List.{list_all, list_any}
 use Rattle.std.specs.Str.{is_utf8, bytes_eq}
 use Rattle.std.specs.Str.Parse.{digits_value}
 use Rattle.std.specs.Char.{is_ascii_digit, is_ascii_hexdigit}
-use Rattle.markup_rules.specs.Bytes.{is_plain, is_name_byte, is_text, is_doctype, is_allowed, starts_name, starts_blank}
+use Rattle.markup_rules.specs.Bytes.{is_literal, is_name_byte, is_text, is_doctype, is_allowed, starts_name, starts_blank}
 use Rattle.markup_rules.specs.Tree.{Tree, node, trees_of}
-use Rattle.basics.specs.Bytes.{is_blank, begins, first_place}
+use Rattle.basics.specs.Bytes.{is_blank, begins, first_index}
 
 -- ---- names
 
@@ -85,7 +85,7 @@ content_meaning (run bytes) = bytes
 content_meaning (then_reference bytes r content) = bytes ++ (encode_utf8 (character r) ++ content_meaning content)
 
 pub record IsRun (bytes : List ℕ) : Type 0 where
-  pub each : IsTrue (list_all is_plain bytes)
+  pub each : IsTrue (list_all is_literal bytes)
   pub utf8 : IsTrue (is_utf8 bytes)
 
 abbrev pub IsContent : Content → Type 0
@@ -164,7 +164,7 @@ aside_then (instruction body) rest = codes "<?" ++ (body ++ (codes "?>" ++ rest)
 
 -- the text has the mark nowhere
 abbrev pub IsWithout : List ℕ → List ℕ → Type 0
-IsWithout mark bytes = IsTrue (is_none (first_place (begins mark) bytes))
+IsWithout mark bytes = IsTrue (is_none (first_index (begins mark) bytes))
 
 pub record IsAsideOf (mark body : List ℕ) : Type 0 where
   pub text : IsTrue (is_text body)
@@ -268,7 +268,7 @@ root_tree at (full_root tag inside blanks) =
 
 -- ---- whole texts
 
--- the byte order mark of UTF-8, which may stand in front
+-- the byte order mark of UTF-8, which may stand in prefix
 abbrev pub order_mark : List ℕ
 order_mark = 0xEF ∷ 0xBB ∷ 0xBF ∷ []
 

@@ -86,12 +86,12 @@ abbrev mutual
   -- the entries of a dict, a key first
   pub entries_of : Tree → Trees → Result (List Entry) Spot
   entries_of here no_trees = Ok []
-  entries_of here (and_trees first later) = key_of first >>= λ key. entries_behind here key later
+  entries_of here (and_trees first later) = key_of first >>= λ key. entries_after here key later
 
-  -- the same, behind a key
-  pub entries_behind : Tree → List ℕ → Trees → Result (List Entry) Spot
-  entries_behind here key no_trees = fault here
-  entries_behind here key (and_trees first later) = do
+  -- the same, after a key
+  pub entries_after : Tree → List ℕ → Trees → Result (List Entry) Spot
+  entries_after here key no_trees = fault here
+  entries_after here key (and_trees first later) = do
     value ← value_at first
     entries ← entries_of here later
     Ok ((key, value) ∷ entries)
@@ -102,7 +102,7 @@ array_of tree = array_by (items_of (trees_of (children_of tree)))
 abbrev pub dict_of : Tree → Result PlainValue Spot
 dict_of tree = dict_by (entries_of tree (trees_of (children_of tree)))
 
--- ---- the whole list: one value, and nothing behind it
+-- ---- the whole list: one value, and nothing after it
 
 abbrev pub only : Tree → List Tree → Result PlainValue Spot
 only tree [] = fault tree

@@ -4,7 +4,7 @@ use std::alloc::{AllocError, Global};
 use std::fmt::Write;
 use std::test::Fail;
 
-/// What stands in a `plist`, with the value as a line: texts in quotes, numbers behind #, arrays in brackets,
+/// What stands in a `plist`, with the value as a line: texts in quotes, numbers after #, arrays in brackets,
 /// dictionaries in braces.
 const VALUES: [(&str, &str); 28] = [
     ("<string>a</string>", "'a'"),

@@ -9,13 +9,6 @@ use Rattle.variation_rules.specs.declared.region.Triple.{Triple}
 use Rattle.variation_rules.specs.Scalar.{is_ignored, factor, scaled}
 use Rattle.region_support.specs.Regions.{no_axis, IsNoneIfIgnored, is_within, ratio, is_below, cut_triple}
 
--- what a test of two numbers tells
-pub lt_tells : (a b : ℤ) → ((int_lt a b ≡ true) × (a <ℤ b)) ⊎ ((int_lt a b ≡ false) × (b ≤ℤ a))
-lt_tells a b = grind (arith, ints)
-
-pub le_tells : (a b : ℤ) → ((int_le a b ≡ true) × (a ≤ℤ b)) ⊎ ((int_le a b ≡ false) × (b <ℤ a))
-le_tells a b = grind (arith, ints)
-
 pub eq_tells : (a b : ℤ) → ((int_eq a b ≡ true) × (a ≡ b)) ⊎ ((int_eq a b ≡ false) × (a ≢ b))
 eq_tells a b = grind (arith, ints)
 

@@ -14,7 +14,7 @@ mod tests;
 use arrayvec::ArrayVec;
 use fixpoint::Fix;
 pub use influence::scalar;
-pub use laws::{keys_tell_apart, one_order, own_one_later_nothing};
+pub use laws::{keys_law, order_law, regions_law};
 pub use sorting::{ModelStop, in_order, order};
 pub use support::boxes;
 pub use variation_rules::Triple;

@@ -271,5 +271,5 @@ fn refuses_faults(rt: HostRuntime) {
     let mut longer = [0; 18];
     longer[..17].copy_from_slice(&ALL_POINTS);
     let found = read_tuples(rt.alloc(), 1, 7, &peaks, &longer);
-    assert!(rt; matches!(found, Ok(None)), "a byte behind the data");
+    assert!(rt; matches!(found, Ok(None)), "a byte after the data");
 }

@@ -181,18 +181,3 @@ drawn_is_one lengths points advance tuples at one other first second =
     let left : one ≡ record { points = other.points; advance = one.advance } = ap (λ (p : List DrawnPoint). record { points = p; advance = one.advance }) same in
     let right : record { points = other.points; advance = one.advance } ≡ other = ap (λ (a : ℤ). record { points = other.points; advance = a }) (first.advance_is ∙ sym second.advance_is) in
     left ∙ right
-
--- where one tuple names all points of a glyph, the four phantom points among them, they are filled with its own deltas
-pub fills_of_all_named : (lengths : List ℕ) (points : List Pair) (tuple : TupleVariation) (fills : List (List Pair)) → sum lengths ≡ length points → tuple.points ≡ count_from (length points + 4) 0 → length tuple.deltas ≡ length points + 4 → Fills lengths points (tuple ∷ []) fills → fills ≡ take (length points) tuple.deltas ∷ []
-fills_of_all_named lengths points tuple fills whole all one_each are =
-    let own : FillsContours lengths points (named_delta tuple.points tuple.deltas) (take (length points) tuple.deltas) = rw all (fills_all_named lengths points tuple.deltas (length points + 4) whole refl one_each) in
-    fills_are_one lengths points (tuple ∷ []) fills (take (length points) tuple.deltas ∷ []) are (own, tt)
-
--- and each is drawn at its default place plus the scalar's part of its delta
-pub drawn_all_named : (part : Pair → ℤ) (lengths : List ℕ) (points : List Pair) (at : List ℤ) (tuple : TupleVariation) (fills : List (List Pair)) (point : ℕ) → sum lengths ≡ length points → tuple.points ≡ count_from (length points + 4) 0 → length tuple.deltas ≡ length points + 4 → Fills lengths points (tuple ∷ []) fills → point < length points → drawn part points at (tuple ∷ []) fills point ≡ (pos 65536 *ℤ part (get_or points point still)) +ℤ (scalar_of 16 tuple.region at *ℤ part (get_or tuple.deltas point still))
-drawn_all_named part lengths points at tuple fills point whole all one_each are inside =
-    let own = fills_of_all_named lengths points tuple fills whole all one_each are in
-    let delta = get_or-take (length points) tuple.deltas point still inside in
-    ap (λ f. drawn part points at (tuple ∷ []) f point) own
-    ∙ (drawn_of_one part points at tuple (take (length points) tuple.deltas) point
-    ∙ ap (λ d. (pos 65536 *ℤ part (get_or points point still)) +ℤ (scalar_of 16 tuple.region at *ℤ part d)) delta)

@@ -13,7 +13,7 @@ word_in bytes place = from_be_bytes w16 (take 2 (drop place bytes))
 abbrev pub long_in : List ℕ → ℕ → ℕ
 long_in bytes place = from_be_bytes w32 (take 4 (drop place bytes))
 
--- Where a glyph's data begin, counted from the place of all data. Behind the last glyph's offset stands one more.
+-- Where a glyph's data begin, counted from the place of all data. After the last glyph's offset stands one more.
 abbrev pub offset_in : List ℕ → ℕ → ℕ
 offset_in bytes glyph = long_in bytes (20 + 4 * glyph)
 

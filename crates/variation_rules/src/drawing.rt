@@ -192,7 +192,7 @@ pub fn draw(
 
 /// The law that the tuple variations of a glyph have one drawing at most at a location, since at most
 /// one list of deltas fills the outline in each tuple.
-pub fn one_drawing()
+pub fn drawing_law()
     ensures fills { FillOnce }
     ensures drawn { DrawOnce }
 {}

@@ -29,7 +29,7 @@ pub add_after_begin : (old mid : Files) (begun : Option (List ℕ)) (path bytes 
 add_after_begin old mid begun path bytes is at =
     ap (λ files. add files begun bytes) is ∙ (ap (λ begun. add (put old path []) begun bytes) at ∙ add-begun old path bytes)
 
--- behind `begin` the whole room of the path is left
+-- after `begin` the whole room of the path is left
 pub room_after_begin : (room_old room_mid : List ℕ → Option ℕ) (old mid : Files) (path : List ℕ) (more : ℕ) → room_mid ≡ room_old → mid ≡ put old path [] → Exceeds (room_mid path) (length (content mid path)) more → Exceeds (room_old path) 0 more
 room_after_begin room_old room_mid old mid path more same is exceeds =
     subst (λ room. Exceeds room 0 more) (ap (λ room. room path) same)

@@ -7,8 +7,8 @@ use Rattle.variation_rules.specs.declared.region.Triple.{Triple}
 use Rattle.variation_rules.specs.declared.tuple.TupleVariation.{TupleVariation}
 use Rattle.variation_rules.specs.TupleVariations.{MeansTuples}
 use Rattle.region_support.specs.MasterOrder.{axes_of}
-use Rattle.region_support.specs.Places.{places_of, regions_in}
-use Rattle.region_support.specs.Regions.{AreNormalisedPlaces, AreNormalisedRegions, AreNoneIfIgnored}
+use Rattle.region_support.specs.Coordinates.{coordinates_of, regions_in}
+use Rattle.region_support.specs.Regions.{AreNormalisedLocations, AreNormalisedRegions, AreNoneIfIgnored}
 use Rattle.region_support.proofs.RegionLaw.{regions_count}
 use Rattle.delta_solve.specs.Deltas.{whole_rows}
 use Rattle.delta_solve.specs.GlyphModels.{IsModelOf, IsTupleWithin, delta_fault}
@@ -17,7 +17,7 @@ use Rattle.delta_solve.specs.declared.model.GlyphModel.{GlyphModel}
 use Rattle.gvar_table.specs.Layout.{IsWritten}
 use Rattle.glyph_variations.specs.Conditions.{AreWritable, IsVariable, point_count}
 use Rattle.glyph_variations.specs.Variations.{AreVariations, explicit_points, outline_points}
-use Rattle.glyph_variations.proofs.DrawsLemmas.{models_are_drawn}
+use Rattle.glyph_variations.proofs.DrawsLemmas.{drawing_law}
 use Rattle.glyph_variations.proofs.ModelLemmas.{is_variable, points_of_default}
 use Rattle.vfb.specs.Glyph.{IsMadeOf, IsDrawnBy, regions, outline_count, axis_count}
 use Rattle.vfb.specs.Lines.{counts_line}
@@ -27,9 +27,9 @@ use Rattle.vfb.specs.declared.faults.ReadStop.{ReadStop}
 use Rattle.vfb.specs.declared.faults.ReadStop.TheVariants.{Refused, ReadFault, NoMemory}
 
 -- there is a region for each master
-pub one_region_each : (supports : List (ArrayVec Triple)) (locations : List (ArrayVec ℤ)) → regions_in supports ≡ regions (record { name = []; locations = places_of locations; outlines = [] }) → length supports ≡ length locations
+pub one_region_each : (supports : List (ArrayVec Triple)) (locations : List (ArrayVec ℤ)) → regions_in supports ≡ regions (record { name = []; locations = locations_of locations; outlines = [] }) → length supports ≡ length locations
 one_region_each supports locations same =
-    sym (length-map supports (λ (support : ArrayVec Triple). support.items)) ∙ (ap length same ∙ (regions_count (places_of locations) ∙ length-map locations (λ (at : ArrayVec ℤ). at.items)))
+    sym (length-map supports (λ (support : ArrayVec Triple). support.items)) ∙ (ap length same ∙ (regions_count (locations_of locations) ∙ length-map locations (λ (at : ArrayVec ℤ). at.items)))
 
 -- a call that refuses the fault of a reading stops by it
 pub StopsBy-refused : {V : Type 0} (reading : Result V Fault) (fault : Fault) (stop : ReadStop) → reading ≡ Err fault → Refuses fault stop → StopsBy stop reading
@@ -72,12 +72,12 @@ module _ (masters : Masters) (gathered : AreGathered masters) (model : GlyphMode
   is_drawn tuples bytes within are means = record {
     tuples = tuples;
     means = subst (λ n. MeansTuples (axis_count masters) (n + 4) [] bytes tuples) point_count_is means;
-    draws = models_are_drawn (axes_of masters.locations) masters.locations masters.outlines model tuples gathered.ordered gathered.within within is are;
+    draws = drawing_law (axes_of masters.locations) masters.locations masters.outlines model tuples gathered.ordered gathered.within within is are;
   }
 
 -- the regions of the masters can be written
 pub are_writable : (masters : Masters) (supports : List (ArrayVec Triple)) → AreGathered masters → All (λ (support : ArrayVec Triple). array_vec_len support ≡ axis_count masters) supports
-    → (AreNormalisedPlaces masters.locations → AreNormalisedRegions (regions_in supports)) → AreNoneIfIgnored (regions_in supports) → AreWritable (axis_count masters) supports
+    → (AreNormalisedLocations masters.locations → AreNormalisedRegions (regions_in supports)) → AreNoneIfIgnored (regions_in supports) → AreWritable (axis_count masters) supports
 are_writable masters supports gathered axis_each normalised none = record {
   some_axes = omega (arith, gathered.some_axes);
   few_axes = gathered.few_axes;

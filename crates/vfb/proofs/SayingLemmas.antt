@@ -1,7 +1,7 @@
 -- What is said in all: the text of a command itself, and then the line of how it ended.
 use Rattle.std.proofs.Common.{◌≡◌, ℕ, ◌≤◌, List, [], ◌∷◌, ◌++◌, codes, Bor, Option, Some, None, Result, Ok, Err, OnOk, OnErr, refl, sym, ◌∙◌, ap, subst, inl, inr, arith, append_assoc, append-nil}
 use Rattle.std.proofs.lemmas.List.{append_cancel_left}
-use Rattle.outside.specs.Files.{Files, IsFront, HasRisen}
+use Rattle.outside.specs.Files.{Files, IsPrefix, HasRisen}
 use Rattle.outside.specs.Said.{Says}
 use Rattle.basics.specs.declared.fault.Fault.{Fault}
 use Rattle.vfb.specs.Command.{Tuples}
@@ -9,7 +9,7 @@ use Rattle.vfb.specs.Ending.{status_of, ending_line}
 use Rattle.vfb.specs.Masters.{Masters, masters_of}
 use Rattle.vfb.specs.Lines.{AddsLine, write_fault_line, read_fault_line, refused_line}
 use Rattle.vfb.specs.Outcome.{IsAnswer, IsAnswerTo, SaysOf, IsSaid, Fails, IsCut, BreaksOff}
-use Rattle.vfb.specs.Performing.{SaysFront, SaysItself, IsSaidItself, FailsItself, IsCutItself, Performs}
+use Rattle.vfb.specs.Performing.{SaysPrefix, SaysItself, IsSaidItself, FailsItself, IsCutItself, Performs}
 use Rattle.vfb.specs.declared.status.Status.{Status}
 use Rattle.vfb.specs.declared.status.Status.TheVariants as status
 use Rattle.vfb.specs.declared.ending.Ending.{Ending}
@@ -17,21 +17,21 @@ use Rattle.vfb.specs.declared.ending.Ending.TheVariants.{Done, Refused, Usage, R
 
 -- ---- one line
 
--- a call that says a line adds it, or a front where the count of faults rose
-pub AddsLine-from : {V E risen : Type 0} (result : Result V E) (line old new : List ℕ) → OnOk result (new ≡ old ++ line) → OnErr result (IsFront old new × IsFront new (old ++ line)) → OnErr result risen → AddsLine risen line old new
-AddsLine-from (Ok _) line old new whole front risen = inl whole
-AddsLine-from (Err _) line old new whole front risen = inr (risen, front.0, front.1)
+-- a call that says a line adds it, or a prefix where the count of faults rose
+pub AddsLine-from : {V E risen : Type 0} (result : Result V E) (line old new : List ℕ) → OnOk result (new ≡ old ++ line) → OnErr result (IsPrefix old new × IsPrefix new (old ++ line)) → OnErr result risen → AddsLine risen line old new
+AddsLine-from (Ok _) line old new whole prefix risen = inl whole
+AddsLine-from (Err _) line old new whole prefix risen = inr (risen, prefix.0, prefix.1)
 
 -- the same of a text that was said before, and of a longer call
 pub AddsLine-wider : {inner risen : Type 0} (line old mid new : List ℕ) → (inner → risen) → mid ≡ old → AddsLine inner line mid new → AddsLine risen line old new
 AddsLine-wider {risen = risen} line old mid new wider same (inl whole) = inl (whole ∙ ap (λ said. said ++ line) same)
 AddsLine-wider {risen = risen} line old mid new wider same (inr cut) =
-    inr (wider cut.0, subst (λ said. IsFront said new) same cut.1, subst (λ said. IsFront new (said ++ line)) same cut.2)
+    inr (wider cut.0, subst (λ said. IsPrefix said new) same cut.1, subst (λ said. IsPrefix new (said ++ line)) same cut.2)
 
--- what is nothing with more behind it is nothing
-nothing_before : (front rest : List ℕ) → front ++ rest ≡ [] → front ≡ []
+-- what is nothing with more after it is nothing
+nothing_before : (prefix rest : List ℕ) → prefix ++ rest ≡ [] → prefix ≡ []
 nothing_before [] rest none = refl
-nothing_before (b ∷ front) rest none = absurd cc
+nothing_before (b ∷ prefix) rest none = absurd cc
 
 -- adding no line changes nothing
 pub AddsLine-none : {risen : Type 0} (old new : List ℕ) → AddsLine risen [] old new → new ≡ old
@@ -41,11 +41,11 @@ AddsLine-none old new (inr cut) =
     let second = cut.2 in
     let none : first.0 ++ second.0 ≡ [] =
     append_cancel_left old (first.0 ++ second.0) [] (sym (append_assoc old first.0 second.0) ∙ (ap (λ said. said ++ second.0) first.1 ∙ second.1)) in
-    sym first.1 ∙ (ap (λ front. old ++ front) (nothing_before first.0 second.0 none) ∙ append-nil old)
+    sym first.1 ∙ (ap (λ prefix. old ++ prefix) (nothing_before first.0 second.0 none) ∙ append-nil old)
 
--- a front of the summary, and then the line of a fault of saying
+-- a prefix of the summary, and then the line of a fault of saying
 BreaksOff-from : {inner later risen : Type 0} (text old mid new : List ℕ) → (inner → risen) → (later → risen)
-    → SaysFront inner text old mid → AddsLine later (write_fault_line (codes "-")) mid new → BreaksOff risen text old new
+    → SaysPrefix inner text old mid → AddsLine later (write_fault_line (codes "-")) mid new → BreaksOff risen text old new
 BreaksOff-from text old mid new first second says adds =
     (first says.0, (says.1.0, says.1.1, AddsLine-wider (write_fault_line (codes "-")) (old ++ says.1.0) mid new second says.1.2 adds))
 
@@ -122,7 +122,7 @@ module _ {X Y Z V E : Type 0}
     (does : Performs tells sources read_faults reads_surely tells_outputs outputs write_faults writes_surely room tells_said said say_faults says_surely say_room x x' y y' z z' command ending)
     (says : Says tells_said said say_faults says_surely say_room z' z'' (ending_line ending) result) (is : state ≡ status_of ending) where
   adds : tells_said z → AddsLine (HasRisen (say_faults z') (say_faults z'')) (ending_line ending) (said z') (said z'')
-  adds told = AddsLine-from result (ending_line ending) (said z') (said z'') (says.whole (does.told told)) (says.front (does.told told)) says.risen
+  adds told = AddsLine-from result (ending_line ending) (said z') (said z'') (says.whole (does.told told)) (says.prefix (does.told told)) says.risen
 
   pub IsSaid-with_line : tells x → tells_said z → IsSaid command (sources x) (HasRisen (say_faults z) (say_faults z'')) (said z) (said z'') state
   IsSaid-with_line told told_said =

@@ -9,7 +9,7 @@ use Rattle.basics.specs.declared.fault.Spot.{Spot}
 use Rattle.glif.specs.Texts.{drawing_of_text}
 use Rattle.glif.specs.declared.shape.Component.{Component}
 use Rattle.glif.specs.declared.shape.Drawing.{Drawing}
-use Rattle.vfb.specs.Command.{Placed}
+use Rattle.vfb.specs.Command.{Located}
 
 -- ---- what a text draws
 
@@ -48,9 +48,9 @@ abbrev pub drawing_in : Option (List ℕ) → List ℕ → Result Drawing Fault
 drawing_in None path = Err (file_fault MissingFile path)
 drawing_in (Some bytes) path = if nat_le (length bytes) 67108864 then in_file path (read_as bytes) else Err (length_fault (length bytes) path)
 
-abbrev pub drawing_at : Files → Placed → Result Drawing Fault
-drawing_at files placed = drawing_in (files placed.path) placed.path
+abbrev pub drawing_at : Files → Located → Result Drawing Fault
+drawing_at files located = drawing_in (files located.path) located.path
 
 -- what the files draw, in the order of the words, or the fault of the first that has one
-abbrev pub drawings_of : Files → List Placed → Result (List Drawing) Fault
+abbrev pub drawings_of : Files → List Located → Result (List Drawing) Fault
 drawings_of files drawings = each (drawing_at files) drawings

@@ -1,12 +1,12 @@
 -- What making the masters and the data of a command's glyph answers.
 use Rattle.std.specs.Prelude.{◌≡◌, ◌≤◌, List, length, All, Result, Ok, Err}
 use Rattle.basics.specs.declared.fault.Fault.{Fault}
-use Rattle.region_support.specs.Places.{places_of}
+use Rattle.region_support.specs.Coordinates.{coordinates_of}
 use Rattle.region_support.specs.MasterOrder.{axes_of}
-use Rattle.region_support.specs.Regions.{AreNormalisedPlaces}
-use Rattle.vfb.specs.Command.{Placed}
+use Rattle.region_support.specs.Regions.{AreNormalisedLocations}
+use Rattle.vfb.specs.Command.{Located}
 use Rattle.vfb.specs.Lines.{counts_line}
-use Rattle.vfb.specs.Masters.{Masters, places_of_drawings}
+use Rattle.vfb.specs.Masters.{Masters, locations_of_drawings}
 use Rattle.vfb.specs.Glyph.{Made, IsMadeOf, IsDrawnBy}
 use Rattle.vfb.specs.Stops.{StopsBy}
 use Rattle.vfb.specs.declared.faults.ReadStop.{ReadStop}
@@ -15,7 +15,7 @@ use Rattle.vfb.specs.declared.glyph.GlyphData.{GlyphData}
 
 -- masters as contracts see them
 abbrev pub shown : code.Masters → Masters
-shown masters = record { name = masters.name; locations = places_of masters.locations; outlines = masters.outlines }
+shown masters = record { name = masters.name; locations = locations_of masters.locations; outlines = masters.outlines }
 
 -- what the data of a glyph are, and what is said of them
 abbrev pub made : GlyphData → Made
@@ -27,9 +27,9 @@ Makes reading (Ok glyph) = (masters : Masters) × (reading ≡ Ok masters) × Is
 Makes reading (Err stop) = StopsBy stop reading
 
 -- At most 128 drawings, at places of as many axes, 1 to 8, with coordinates from -1 to 1.
-pub record ArePlaced (drawings : List Placed) : Type 0 where
-  pub some_axes : 1 ≤ axes_of (places_of_drawings drawings)
-  pub few_axes : axes_of (places_of_drawings drawings) ≤ 8
+pub record AreLocated (drawings : List Located) : Type 0 where
+  pub some_axes : 1 ≤ axes_of (locations_of_drawings drawings)
+  pub few_axes : axes_of (locations_of_drawings drawings) ≤ 8
   pub few : length drawings ≤ 128
-  pub same_axes : All (λ (placed : Placed). length placed.at ≡ axes_of (places_of_drawings drawings)) drawings
-  pub normalised : AreNormalisedPlaces (places_of_drawings drawings)
+  pub same_axes : All (λ (located : Located). length located.at ≡ axes_of (locations_of_drawings drawings)) drawings
+  pub normalised : AreNormalisedLocations (locations_of_drawings drawings)

@@ -1,6 +1,6 @@
 -- How a run ends: its status, what the files hold afterwards, and what was said.
 use Rattle.std.specs.Prelude.{◌≡◌, ℕ, ◌+◌, ◌<◌, ◌⊎◌, List, ◌++◌, length, codes, Option, Some, None, Result, Ok, Err}
-use Rattle.outside.specs.Files.{Files, put, content, IsFront, Exceeds}
+use Rattle.outside.specs.Files.{Files, put, content, IsPrefix, Exceeds}
 use Rattle.basics.specs.declared.fault.Fault.{Fault}
 use Rattle.vfb.specs.Command.{Tuples}
 use Rattle.vfb.specs.Masters.{Masters, masters_of}
@@ -42,11 +42,11 @@ WritesNothing status.Ok = ⊥
 WritesNothing status.WriteFault = ⊥
 WritesNothing _ = Unit {0}
 
--- nothing of the data is there, or the path holds a front of them
+-- nothing of the data is there, or the path holds a prefix of them
 abbrev pub IsCutShort : List ℕ → List ℕ → Files → Files → Type 0
-IsCutShort out bytes old new = (new ≡ old) ⊎ ((front : List ℕ) × IsFront front bytes × (new ≡ put old out front))
+IsCutShort out bytes old new = (new ≡ old) ⊎ ((prefix : List ℕ) × IsPrefix prefix bytes × (new ≡ put old out prefix))
 
--- at Ok the path holds the data of the masters, and every other path what it held; at a write fault a front
+-- at Ok the path holds the data of the masters, and every other path what it held; at a write fault a prefix
 abbrev pub Writes : Result Masters Fault → List ℕ → Files → Files → Status → Type 0
 Writes (Ok masters) out old new status.Ok = (made : Made) × IsMadeOf masters made × (new ≡ put old out made.bytes)
 Writes (Ok masters) out old new status.WriteFault = (made : Made) × IsMadeOf masters made × IsCutShort out made.bytes old new
@@ -59,10 +59,10 @@ abbrev pub IsWritten : Option Tuples → Files → Files → Files → Status �
 IsWritten None files old new status = new ≡ old
 IsWritten (Some command) files old new status = Writes (masters_of files command) command.out old new status
 
--- a front of the summary and then the line of a fault of saying itself
+-- a prefix of the summary and then the line of a fault of saying itself
 abbrev pub BreaksOff : Type 0 → List ℕ → List ℕ → List ℕ → Type 0
 BreaksOff risen text old new =
-    risen × ((front : List ℕ) × IsFront front text × AddsLine risen (write_fault_line (codes "-")) (old ++ front) new)
+    risen × ((prefix : List ℕ) × IsPrefix prefix text × AddsLine risen (write_fault_line (codes "-")) (old ++ prefix) new)
 
 -- The text said for a command, where risen says that the count of faults of saying rose.
 abbrev pub SaysOf : Tuples → Files → Result Masters Fault → Type 0 → List ℕ → List ℕ → Status → Type 0

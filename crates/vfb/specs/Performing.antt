@@ -1,6 +1,6 @@
 -- What every function that performs a command makes of the outside, before the line of how it ended is said.
 use Rattle.std.specs.Prelude.{◌≡◌, ◌↔◌, ℕ, ◌≤◌, ◌⊎◌, List, ◌++◌, codes, Option, Some, None, Result, Ok, Err}
-use Rattle.outside.specs.Files.{Files, put, IsFront, HasRisen}
+use Rattle.outside.specs.Files.{Files, put, IsPrefix, HasRisen}
 use Rattle.basics.specs.declared.fault.Fault.{Fault}
 use Rattle.vfb.specs.Command.{Tuples}
 use Rattle.vfb.specs.Masters.{Masters, masters_of}
@@ -12,15 +12,15 @@ use Rattle.vfb.specs.declared.status.Status.TheVariants as status
 use Rattle.vfb.specs.declared.ending.Ending.{Ending}
 use Rattle.vfb.specs.declared.ending.Ending.TheVariants.{Done, ReadFault, WriteFault}
 
--- a front of the text is said, where the count of faults of saying rose
-abbrev pub SaysFront : Type 0 → List ℕ → List ℕ → List ℕ → Type 0
-SaysFront risen text old new = risen × ((front : List ℕ) × IsFront front text × (new ≡ old ++ front))
+-- a prefix of the text is said, where the count of faults of saying rose
+abbrev pub SaysPrefix : Type 0 → List ℕ → List ℕ → List ℕ → Type 0
+SaysPrefix risen text old new = risen × ((prefix : List ℕ) × IsPrefix prefix text × (new ≡ old ++ prefix))
 
 -- the text that a command says itself, and which path its ending names
 abbrev pub SaysItself : Tuples → Files → Result Masters Fault → Type 0 → List ℕ → List ℕ → Ending → Type 0
 SaysItself command files (Ok masters) risen old new Done = (made : Made) × IsMadeOf masters made × (new ≡ old ++ made.summary)
 SaysItself command files (Ok masters) risen old new (WriteFault path) =
-    ((path.now ≡ command.out) × (new ≡ old)) ⊎ ((path.now ≡ codes "-") × ((made : Made) × IsMadeOf masters made × SaysFront risen made.summary old new))
+    ((path.now ≡ command.out) × (new ≡ old)) ⊎ ((path.now ≡ codes "-") × ((made : Made) × IsMadeOf masters made × SaysPrefix risen made.summary old new))
 SaysItself command files _ risen old new (ReadFault path) = StopsAt (Unit {0}) files command.drawings path.now × (new ≡ old)
 SaysItself command files _ risen old new _ = new ≡ old
 
@@ -32,7 +32,7 @@ IsSaidItself (Some command) files risen old new ending = SaysItself command file
 abbrev pub FailsItself : Tuples → Result Masters Fault → Type 0 → Files → Files → List ℕ → List ℕ → Ending → Type 0
 FailsItself command (Ok masters) risen old new said_old said_new (WriteFault path) = (made : Made) × IsMadeOf masters made
     × (((path.now ≡ command.out) × IsCutShort command.out made.bytes old new × (said_new ≡ said_old))
-    ⊎ ((path.now ≡ codes "-") × (new ≡ put old command.out made.bytes) × SaysFront risen made.summary said_old said_new))
+    ⊎ ((path.now ≡ codes "-") × (new ≡ put old command.out made.bytes) × SaysPrefix risen made.summary said_old said_new))
 FailsItself command (Err _) risen old new said_old said_new (WriteFault path) = ⊥
 FailsItself command _ risen old new said_old said_new _ = Unit {0}
 

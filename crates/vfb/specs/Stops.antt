@@ -3,7 +3,7 @@ use Rattle.std.specs.Prelude.{◌≡◌, ℕ, ◌≤◌, ◌⊎◌, List, [], �
 use Rattle.outside.specs.Files.{Files, HasRisen}
 use Rattle.basics.specs.Reading.{GivesBy}
 use Rattle.basics.specs.declared.fault.Fault.{Fault}
-use Rattle.vfb.specs.Command.{Placed}
+use Rattle.vfb.specs.Command.{Located}
 use Rattle.vfb.specs.Faults.{drawing_at}
 use Rattle.vfb.specs.declared.faults.ReadStop.{ReadStop}
 use Rattle.vfb.specs.declared.faults.ReadStop.TheVariants.{Refused, ReadFault, NoMemory}
@@ -41,10 +41,10 @@ NeverFails _ = Unit {0}
 
 -- The path is that of one of these drawings, and where the sources tell their files, every earlier one's file is a
 -- drawing.
-abbrev pub StopsAt : Type 0 → Files → List Placed → List ℕ → Type 0
+abbrev pub StopsAt : Type 0 → Files → List Located → List ℕ → Type 0
 StopsAt told files [] path = ⊥
-StopsAt told files (placed ∷ later) path =
-    (path ≡ placed.path) ⊎ ((told → IsOk (drawing_at files placed)) × StopsAt told files later path)
+StopsAt told files (located ∷ later) path =
+    (path ≡ located.path) ⊎ ((told → IsOk (drawing_at files located)) × StopsAt told files later path)
 
 -- X is the sources, old as the call begins and new as it ends. Its members tells, files, faults and is_sure are
 -- those of Sources. Gives is what a call gives of sources that tell their files.

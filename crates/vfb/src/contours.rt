@@ -5,7 +5,7 @@ ghost use Rattle.vfb.specs.Stops.{IsReadFrom, NeverFails};
 ghost use Rattle.vfb.specs.Words.{seen};
 
 use crate::faults::{ReadStop, refuse_difference};
-use crate::words::Placed;
+use crate::words::Located;
 use compat::compare;
 use glif::Drawing;
 use std::alloc::Global;
@@ -15,16 +15,16 @@ use std::alloc::Global;
 pub(crate) fn all_alike<'a>(
     alloc: Global,
     default: &Drawing,
-    placed: &[Placed<'a>],
+    located: &[Located<'a>],
     drawings: &[Drawing],
 ) -> Result<(), ReadStop<'a>>
-    requires { length drawings.now ≡ length placed.now }
-    ensures alike { IsReadFrom (all_alike default.now (map seen placed.now) drawings.now) result }
+    requires { length drawings.now ≡ length located.now }
+    ensures alike { IsReadFrom (all_alike default.now (map seen located.now) drawings.now) result }
     ensures never { NeverFails result }
 {
     for (index, drawing) in drawings.iter().enumerate() {
         if let Some(difference) = compare(&default.outline, &drawing.outline) {
-            return Err(refuse_difference(alloc, &default.name, placed[index].path, difference));
+            return Err(refuse_difference(alloc, &default.name, located[index].path, difference));
         }
     }
     Ok(())

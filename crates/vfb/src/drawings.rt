@@ -8,7 +8,7 @@ ghost use Rattle.vfb.specs.Stops.{StopsAt, IsReadFrom, NeverFails, Reads};
 ghost use Rattle.vfb.specs.Words.{seen};
 
 use crate::faults::{ReadStop, refuse_absent, refuse_length, refuse_spot};
-use crate::words::Placed;
+use crate::words::Located;
 use glif::Drawing;
 use basics::{Kind, Seq, Stop, stop_at};
 use outside::{Found, ReadError, Sources};
@@ -85,15 +85,15 @@ fn read_drawing<'a, S: Sources>(
 /// fault is answered before the next one is read.
 pub(crate) fn read_drawings<'a, S: Sources>(
     alloc: Global,
-    placed: &[Placed<'a>],
+    located: &[Located<'a>],
     sources: &mut S,
 ) -> Result<Seq<Drawing>, ReadStop<'a>>
-    ensures reads { Reads S.tells S.files S.faults S.is_sure sources.old sources.new (StopsAt (S.tells sources.old) (S.files sources.old) (map seen placed.now)) (IsReadFrom (drawings_of (S.files sources.old) (map seen placed.now)) result) result }
-    ensures one_each { IfOk result (λ drawings. length drawings ≡ length placed.now) }
+    ensures reads { Reads S.tells S.files S.faults S.is_sure sources.old sources.new (StopsAt (S.tells sources.old) (S.files sources.old) (map seen located.now)) (IsReadFrom (drawings_of (S.files sources.old) (map seen located.now)) result) result }
+    ensures one_each { IfOk result (λ drawings. length drawings ≡ length located.now) }
     ensures within { IfOk result (All (λ (drawing : Drawing). IsWithinLimits drawing.outline)) }
 {
     let mut drawings = Seq::new(alloc);
-    for one in placed {
+    for one in located {
         let drawing = match read_drawing(alloc, one.path, sources) {
             Ok(drawing) => drawing,
             Err(stop) => return Err(stop),

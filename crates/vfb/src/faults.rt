@@ -1,7 +1,7 @@
 ghost use Rattle.std.specs.Prelude.{◌≡◌, [], IfOk, MatchResult};
 ghost use Rattle.basics.specs.Reading.{spot_of};
 ghost use Rattle.vfb.specs.Faults.{fault_at, file_fault, length_fault};
-ghost use Rattle.vfb.specs.Masters.{difference_fault, place_fault, range_fault};
+ghost use Rattle.vfb.specs.Masters.{difference_fault, location_fault, range_fault};
 ghost use Rattle.vfb.specs.Stops.{Refuses};
 
 use compat::Difference;
@@ -125,8 +125,8 @@ pub(crate) fn refuse_difference<'a>(
 }
 
 /// A fault of the places of the drawings with these two numbers.
-fn place_fault(alloc: Global, kind: Kind, at: u32, also: u32) -> Result<Fault, NoMemory>
-    ensures { IfOk result (λ fault. fault ≡ place_fault kind at also) }
+fn location_fault(alloc: Global, kind: Kind, at: u32, also: u32) -> Result<Fault, NoMemory>
+    ensures { IfOk result (λ fault. fault ≡ location_fault kind at also) }
 {
     Ok(Fault {
         path: Name::from_str(alloc, "")?,
@@ -142,10 +142,10 @@ fn place_fault(alloc: Global, kind: Kind, at: u32, also: u32) -> Result<Fault, N
 }
 
 /// Stops with a fault of the places of the drawings with these two numbers.
-pub(crate) fn refuse_places<'a>(alloc: Global, kind: Kind, at: u32, also: u32) -> ReadStop<'a>
-    ensures { Refuses (place_fault kind at also) result }
+pub(crate) fn refuse_locations<'a>(alloc: Global, kind: Kind, at: u32, also: u32) -> ReadStop<'a>
+    ensures { Refuses (location_fault kind at also) result }
 {
-    stop_with(place_fault(alloc, kind, at, also))
+    stop_with(location_fault(alloc, kind, at, also))
 }
 
 /// A delta of the glyph with this name that doesn't fit 16 bits: that of a point's x or y, for the

@@ -1,12 +1,12 @@
 ghost use Rattle.std.specs.Prelude.{◌≡◌, ◌+◌, map, All, IfOk};
 ghost use Rattle.basics.specs.Reading.{GivesBy};
 ghost use Rattle.region_support.specs.MasterOrder.{axes_of};
-ghost use Rattle.region_support.specs.Places.{places_of, regions_in};
+ghost use Rattle.region_support.specs.Coordinates.{coordinates_of, regions_in};
 ghost use Rattle.delta_solve.specs.GlyphModels.{IsModelOf, IsTupleWithin};
 ghost use Rattle.delta_solve.specs.declared.model.GlyphModel.{GlyphModel};
 ghost use Rattle.glyph_variations.specs.Conditions.{AreGlyphTuples, point_count};
 ghost use Rattle.vfb.specs.Glyph.{regions};
-ghost use Rattle.vfb.specs.Making.{ArePlaced, Makes, shown};
+ghost use Rattle.vfb.specs.Making.{AreLocated, Makes, shown};
 ghost use Rattle.vfb.specs.Masters.{AreGathered, fitting, masters_of};
 ghost use Rattle.vfb.specs.Stops.{NeverFails, Reads, StopsAt, StopsBy};
 ghost use Rattle.vfb.specs.Words.{asked, seen};
@@ -23,7 +23,7 @@ use outside::Sources;
 use region_support::{Support, boxes};
 use std::alloc::Global;
 
-/// The phantom points that a glyph has behind its outline's (OpenType, "glyf").
+/// The phantom points that a glyph has after its outline's (OpenType, "glyf").
 const PHANTOM_POINTS: u16 = 4;
 
 /// The variation data of a glyph, and what they hold.
@@ -41,7 +41,7 @@ pub(crate) struct GlyphData {
 
 /// How many axes the masters' locations have.
 fn axis_count(masters: &Masters) -> u32
-    ensures { result ≡ axes_of (places_of masters.now.locations) }
+    ensures { result ≡ axes_of (locations_of masters.now.locations) }
 {
     match masters.locations.as_slice() {
         [at, ..] => at.len() as u32,
@@ -70,7 +70,7 @@ fn model_of<'a>(
     requires regions { regions_in supports.now ≡ regions (shown masters.now) }
     ensures fits { GivesBy StopsBy (λ (_ : GlyphModel). shown masters.now) result (fitting (shown masters.now)) }
     ensures never { NeverFails result }
-    ensures model { IfOk result (IsModelOf (regions (shown masters.now)) (places_of masters.now.locations) masters.now.outlines) }
+    ensures model { IfOk result (IsModelOf (regions (shown masters.now)) (locations_of masters.now.locations) masters.now.outlines) }
     ensures within { IfOk result (λ model. All IsTupleWithin model.tuples) }
 {
     let table = table(alloc, supports, &masters.locations)?;
@@ -115,12 +115,12 @@ pub(crate) fn make_data<'a, S: Sources>(
     command: &Command<'a>,
     sources: &mut S,
 ) -> Result<GlyphData, ReadStop<'a>>
-    requires { ArePlaced (map seen command.now.drawings.items) }
+    requires { AreLocated (map seen command.now.drawings.items) }
     ensures { Reads S.tells S.files S.faults S.is_sure sources.old sources.new (StopsAt (S.tells sources.old) (S.files sources.old) (map seen command.now.drawings.items)) (Makes (masters_of (S.files sources.old) (asked command.now)) result) result }
 {
-    let placed = command.drawings.as_slice();
-    let drawings = read_drawings(alloc, placed, sources)?;
-    let masters = gather(alloc, placed, drawings.as_slice())?;
+    let located = command.drawings.as_slice();
+    let drawings = read_drawings(alloc, located, sources)?;
+    let masters = gather(alloc, located, drawings.as_slice())?;
     let data = data_of(alloc, &masters)?;
     Ok(data)
 }

@@ -4,16 +4,16 @@ ghost use Rattle.glif.specs.Limits.{IsWithinLimits};
 ghost use Rattle.glif.specs.declared.shape.Drawing.{Drawing};
 ghost use Rattle.arrayvec.specs.ArrayVec.{array_vec_len};
 ghost use Rattle.region_support.specs.MasterOrder.{axes_of};
-ghost use Rattle.region_support.specs.Places.{places_of};
+ghost use Rattle.region_support.specs.Coordinates.{coordinates_of};
 ghost use Rattle.region_support.specs.Sorting.{IsOrder};
-ghost use Rattle.vfb.specs.Making.{ArePlaced, shown};
-ghost use Rattle.vfb.specs.Masters.{AreGathered, drawing_numbered, gathered, masters_in, ordered, places_of_drawings};
+ghost use Rattle.vfb.specs.Making.{AreLocated, shown};
+ghost use Rattle.vfb.specs.Masters.{AreGathered, drawing_numbered, gathered, masters_in, ordered, locations_of_drawings};
 ghost use Rattle.vfb.specs.Stops.{StopsBy, IsReadFrom, NeverFails};
 ghost use Rattle.vfb.specs.Words.{seen};
 
 use crate::contours::all_alike;
-use crate::faults::{ReadStop, refuse_places};
-use crate::words::Placed;
+use crate::faults::{ReadStop, refuse_locations};
+use crate::words::Located;
 use glif::{Drawing, Outline, Point};
 use basics::{Kind, Name, NoMemory, Seq};
 use region_support::{Location, ModelStop, in_order, order};
@@ -31,36 +31,36 @@ pub(crate) struct Masters {
 }
 
 /// An equal place of its own.
-fn copy_place(at: &Location) -> Result<Location, NoMemory>
+fn copy_location(at: &Location) -> Result<Location, NoMemory>
     ensures { IfOk result (λ copy. copy.items ≡ at.now.items) }
 {
     Ok(at.clone()?)
 }
 
 /// Where the drawings stand, in the order of the words.
-fn places_of(alloc: Global, placed: &[Placed<'_>]) -> Result<Seq<Location>, NoMemory>
-    ensures { IfOk result (λ places. places_of places ≡ places_of_drawings (map seen placed.now)) }
+fn locations_of(alloc: Global, located: &[Located<'_>]) -> Result<Seq<Location>, NoMemory>
+    ensures { IfOk result (λ locations. locations_of locations ≡ locations_of_drawings (map seen located.now)) }
 {
-    let mut places = Vec::new(alloc);
-    for one in placed {
-        places.push(copy_place(&one.at)?)?;
+    let mut locations = Vec::new(alloc);
+    for one in located {
+        locations.push(copy_location(&one.at)?)?;
     }
-    Ok(Seq::from_vec(places))
+    Ok(Seq::from_vec(locations))
 }
 
 /// The numbers of the drawings at these places, in the order of masters.
-fn ordered<'a>(alloc: Global, places: &Seq<Location>) -> Result<Seq<u32>, ReadStop<'a>>
-    requires lengths { All (λ at. array_vec_len at ≡ axes_of (places_of places.now)) places.now }
-    requires few { length places.now ≤ 128 }
-    ensures order { IsReadFrom (ordered (places_of places.now)) result }
+fn ordered<'a>(alloc: Global, locations: &Seq<Location>) -> Result<Seq<u32>, ReadStop<'a>>
+    requires lengths { All (λ at. array_vec_len at ≡ axes_of (locations_of locations.now)) locations.now }
+    requires few { length locations.now ≤ 128 }
+    ensures order { IsReadFrom (ordered (locations_of locations.now)) result }
     ensures never { NeverFails result }
-    ensures masters { IfOk result (IsOrder (places_of places.now)) }
+    ensures masters { IfOk result (IsOrder (locations_of locations.now)) }
 {
-    match order(alloc, places) {
+    match order(alloc, locations) {
         Ok(order) => Ok(order),
-        Err(ModelStop::NoDefault) => Err(refuse_places(alloc, Kind::NoDefaultSource, 0, 0)),
+        Err(ModelStop::NoDefault) => Err(refuse_locations(alloc, Kind::NoDefaultSource, 0, 0)),
         Err(ModelStop::SameLocation(first, second)) => {
-            Err(refuse_places(alloc, Kind::SameLocation, first, second))
+            Err(refuse_locations(alloc, Kind::SameLocation, first, second))
         }
         Err(ModelStop::NoMemory) => Err(ReadStop::NoMemory),
     }
@@ -95,15 +95,15 @@ fn outlines_in(alloc: Global, drawings: &[Drawing], order: &[u32]) -> Result<Seq
 /// The masters that the drawings at these places are, in their order.
 fn masters_in(
     alloc: Global,
-    places: &Seq<Location>,
+    locations: &Seq<Location>,
     drawings: &[Drawing],
     order: &Seq<u32>,
 ) -> Result<Masters, NoMemory>
-    requires one_each { length drawings.now ≡ length places.now }
-    requires order { IsOrder (places_of places.now) order.now }
-    ensures { IfOk result (λ masters. shown masters ≡ masters_in (places_of places.now) drawings.now order.now) }
+    requires one_each { length drawings.now ≡ length locations.now }
+    requires order { IsOrder (locations_of locations.now) order.now }
+    ensures { IfOk result (λ masters. shown masters ≡ masters_in (locations_of locations.now) drawings.now order.now) }
 {
-    let locations = in_order(alloc, places, order)?;
+    let locations = in_order(alloc, locations, order)?;
     let numbers = order.as_slice();
     Ok(Masters {
         name: drawings[numbers[0] as usize].name.try_copy(alloc)?,
@@ -116,23 +116,23 @@ fn masters_in(
 /// contours like the default's.
 pub(crate) fn gather<'a>(
     alloc: Global,
-    placed: &[Placed<'a>],
+    located: &[Located<'a>],
     drawings: &[Drawing],
 ) -> Result<Masters, ReadStop<'a>>
-    requires placed { ArePlaced (map seen placed.now) }
-    requires one_each { length drawings.now ≡ length placed.now }
+    requires located { AreLocated (map seen located.now) }
+    requires one_each { length drawings.now ≡ length located.now }
     requires within { All (λ (drawing : Drawing). IsWithinLimits drawing.outline) drawings.now }
-    ensures gathers { GivesBy StopsBy shown result (gathered (map seen placed.now) drawings.now) }
+    ensures gathers { GivesBy StopsBy shown result (gathered (map seen located.now) drawings.now) }
     ensures never { NeverFails result }
     ensures gathered { IfOk result (λ masters. AreGathered (shown masters)) }
 {
-    let places = places_of(alloc, placed)?;
-    let order = ordered(alloc, &places)?;
+    let locations = locations_of(alloc, located)?;
+    let order = ordered(alloc, &locations)?;
     let default = &drawings[order.as_slice()[0] as usize];
-    match all_alike(alloc, default, placed, drawings) {
+    match all_alike(alloc, default, located, drawings) {
         Ok(()) => {}
         Err(stop) => return Err(stop),
     }
-    let masters = masters_in(alloc, &places, drawings, &order)?;
+    let masters = masters_in(alloc, &locations, drawings, &order)?;
     Ok(masters)
 }

@@ -398,7 +398,7 @@ struct Failing {
     held: Option<&'static [u8]>,
 }
 
-/// Each device in turn. The line of a fault of saying stands behind what was said of the summary.
+/// Each device in turn. The line of a fault of saying stands after what was said of the summary.
 const FAILING: [Failing; 6] = [
     Failing {
         reads: &[2],

@@ -1,5 +1,5 @@
 ghost use Rattle.std.specs.Prelude.{Some, map};
-ghost use Rattle.vfb.specs.Making.{ArePlaced};
+ghost use Rattle.vfb.specs.Making.{AreLocated};
 ghost use Rattle.vfb.specs.Performing.{Performs};
 ghost use Rattle.vfb.specs.Words.{asked, seen};
 ghost use Rattle.vfb.specs.Writing.{WritesFile};
@@ -29,7 +29,7 @@ pub(crate) fn tuples<'a, S: Sources, O: Outputs, T: Say>(
     outputs: &mut O,
     say: &mut T,
 ) -> Ending<'a>
-    requires { ArePlaced (map seen command.now.drawings.items) }
+    requires { AreLocated (map seen command.now.drawings.items) }
     ensures { Performs S.tells S.files S.faults S.is_sure O.tells O.files O.faults O.is_sure O.room T.tells T.said T.faults T.is_sure T.room sources.old sources.new outputs.old outputs.new say.old say.new (Some (asked command.now)) result }
 {
     let data = match make_data(alloc, command, sources) {

@@ -60,7 +60,7 @@ fn draws_the_way_between(rt: HostRuntime) -> Result<(), Fail> {
 }
 
 /// The places of four masters on two axes, the last on both.
-const PLACES: [&str; 4] = ["0,0", "16384,0", "0,16384", "8192,16384"];
+const LOCATIONS: [&str; 4] = ["0,0", "16384,0", "0,16384", "8192,16384"];
 
 /// The first coordinate of each, and in 65,536ths what is drawn at the last place: with the values 0, 1, 0
 /// and 1 the deltas are 0, 1, 0 and 0, since the half that is left is rounded down, and with 0 in place of
@@ -77,7 +77,7 @@ fn draws_halves_at_a_master(rt: HostRuntime) -> Result<(), Fail> {
         for x in xs {
             drawings.push(one_point(alloc, x, 0)?)?;
         }
-        let (status, _, held) = outcome(alloc, &PLACES, drawings.as_slice())?;
+        let (status, _, held) = outcome(alloc, &LOCATIONS, drawings.as_slice())?;
         assert_eq!(rt; status, 0);
         let held = held.ok_or("a file")?;
         let tuples = read_tuples(alloc, 2, 5, &Seq::new(alloc), held.as_slice())?.ok_or(

@@ -15,10 +15,10 @@ fn blank(alloc: Global, width: i32) -> Result<String, Fail> {
 }
 
 /// The words of `tuples` for drawings at these places, the first in the file `0`, and so on.
-fn words_at(alloc: Global, places: &[&str]) -> Result<Vec<String>, Fail> {
+fn words_at(alloc: Global, locations: &[&str]) -> Result<Vec<String>, Fail> {
     let mut words = owned(alloc, &["vfb", "tuples", "o.bin"])?;
-    for (number, place) in places.iter().enumerate() {
-        words.push(format!(in alloc; "{number}@{place}")?)?;
+    for (number, location) in locations.iter().enumerate() {
+        words.push(format!(in alloc; "{number}@{location}")?)?;
     }
     Ok(words)
 }
@@ -26,10 +26,10 @@ fn words_at(alloc: Global, places: &[&str]) -> Result<Vec<String>, Fail> {
 /// What a run over the drawings at these places says, with its status, and what `o.bin` holds.
 pub(super) fn outcome(
     alloc: Global,
-    places: &[&str],
+    locations: &[&str],
     drawings: &[String],
 ) -> Result<(u8, Vec<u8>, Option<Vec<u8>>), Fail> {
-    let words = words_at(alloc, places)?;
+    let words = words_at(alloc, locations)?;
     let mut texts = Seq::new(alloc);
     for (number, drawing) in drawings.iter().enumerate() {
         let path = format!(in alloc; "{number}")?;
@@ -81,8 +81,8 @@ fn refuses_deltas_of_more_than_16_bits(rt: HostRuntime) -> Result<(), Fail> {
     for width in [0, 16_383, 16_383, 16_383, 0] {
         drawings.push(blank(alloc, width)?)?;
     }
-    let places = ["0,0,0", "9,0,0", "0,9,0", "0,0,9", "9,9,9"];
-    let (status, said, _) = outcome(alloc, &places, drawings.as_slice())?;
+    let locations = ["0,0,0", "9,0,0", "0,9,0", "0,0,9", "9,9,9"];
+    let (status, said, _) = outcome(alloc, &locations, drawings.as_slice())?;
     assert_eq!(rt; status, 1);
     assert_eq!(rt;
         said.as_slice(),
@@ -100,8 +100,8 @@ fn compares_contours_before_deltas(rt: HostRuntime) -> Result<(), Fail> {
         drawings.push(one_point(alloc, x, 0)?)?;
     }
     drawings.push(blank(alloc, 100)?)?;
-    let places = ["0,0", "16384,0", "0,16384", "16384,16384", "1,0"];
-    let (status, said, _) = outcome(alloc, &places, drawings.as_slice())?;
+    let locations = ["0,0", "16384,0", "0,16384", "16384,16384", "1,0"];
+    let (status, said, _) = outcome(alloc, &locations, drawings.as_slice())?;
     assert_eq!(rt; status, 1);
     assert_eq!(rt;
         said.as_slice(),

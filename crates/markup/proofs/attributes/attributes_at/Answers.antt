@@ -1,7 +1,7 @@
 use Rattle.std.proofs.Common.{◌≡◌, ℕ, ◌∙◌, List, sym, ap, subst, Some, None}
 use Rattle.std.specs.Prelude.{Option}
 use Rattle.markup_rules.specs.Reading.{attribute_at}
-use Rattle.markup_rules.proofs.Attributes.{attributes_begin, attributes_behind, attributes_done, attributes_none, attributes_step, attribute_shorter, names_of}
+use Rattle.markup_rules.proofs.Attributes.{attributes_begin, attributes_after, attributes_done, attributes_none, attributes_step, attribute_shorter, names_of}
 use Rattle.markup.specs.Names.{HasNames}
 use Rattle.markup.specs.Views.{attribute_view}
 use Rattle.markup.proofs.attributes.attributes_at.Goals as goal
@@ -10,7 +10,7 @@ pub loop-alloc-init : goal.loop-alloc-init
 loop-alloc-init c =
     let none = c.from_vec-kept.ensures ∙ c.in_ok-with_capacity.ensures.items in (
       subst (λ kept. HasNames c.no_names-names.result (names_of kept)) (sym none) c.no_names-names.ensures,
-      ap (λ kept. attributes_behind kept c.args.bytes.now) none ∙ attributes_begin c.args.bytes.now,
+      ap (λ kept. attributes_after kept c.args.bytes.now) none ∙ attributes_begin c.args.bytes.now,
     )
 
 pub returns-in_default : goal.returns-in_default
@@ -27,7 +27,7 @@ pub loop-alloc-preserved : goal.loop-alloc-preserved
 loop-alloc-preserved c =
     let found : attribute_at c.loop-alloc.rest.now ≡ Some (attribute_view c.in-Some.attribute, c.in-Some.after.now) = rw c.in-Some.is at c.in_ok-attribute.ensures in (
       c.in_ok-push_first.ensures.names,
-      ap (λ kept. attributes_behind kept c.in-Some.after.now) c.in_ok-push_first.ensures.kept ∙
+      ap (λ kept. attributes_after kept c.in-Some.after.now) c.in_ok-push_first.ensures.kept ∙
           (attributes_step c.loop-alloc.kept c.loop-alloc.rest.now (attribute_view c.in-Some.attribute) c.in-Some.after.now (sym c.is_tag_end.ensures ∙ c.loop-alloc-test.true) found ∙ c.loop-alloc.invariant.1),
     )
 

@@ -1,6 +1,6 @@
 use Rattle.std.proofs.Common.{map, string_bytes}
 use Rattle.vfb.specs.Words.{asked}
-use Rattle.vfb.proofs.PlacedLemmas.{proper}
+use Rattle.vfb.proofs.LocatedLemmas.{proper}
 use Rattle.vfb.proofs.program.perform.Goals as goal
 
 pub tuples-requires : goal.tuples-requires

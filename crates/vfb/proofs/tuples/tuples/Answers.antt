@@ -3,7 +3,7 @@ use Rattle.outside.specs.Files.{put}
 use Rattle.vfb.specs.Making.{made}
 use Rattle.vfb.specs.Masters.{masters_of}
 use Rattle.vfb.specs.Words.{asked}
-use Rattle.vfb.proofs.PerformingLemmas.{SaysFront-from, Writes-whole, SaysItself-dash, SaysItself-stopped, FailsItself-dash, Overflows-saying}
+use Rattle.vfb.proofs.PerformingLemmas.{SaysPrefix-from, Writes-whole, SaysItself-dash, SaysItself-stopped, FailsItself-dash, Overflows-saying}
 use Rattle.vfb.proofs.tuples.tuples.Goals as goal
 
 -- saying failed, after the file was written whole
@@ -13,7 +13,7 @@ returns g c =
     let say = c.in-Err-say_counts.ensures in
     let out = c.args.command.now.out.now in
     let whole = λ (told : g.O.Outputs.tells c.args.outputs.now). c.in-Ok-write_file.ensures.whole told ∙ ap (put _ out) c.as_slice.ensures.value in
-    let says = λ (told : g.T.Say.tells c.args.say.now). SaysFront-from _ _ _ _ refl say.risen (say.front told).0 (say.front told).1 in
+    let says = λ (told : g.T.Say.tells c.args.say.now). SaysPrefix-from _ _ _ _ refl say.risen (say.prefix told).0 (say.prefix told).1 in
     record {
       usage = search rules;
       answer = search rules;
