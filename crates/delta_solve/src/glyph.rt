@@ -12,9 +12,9 @@ use crate::model::{DeltaStop, GlyphModel, GlyphTuple};
 use crate::number::fitting;
 use crate::scalars::ScalarTable;
 use crate::sums::{Wide, advance_dot, left_of, point_dot};
+use basics::{NoMemory, Seq};
 use fixpoint::Pair;
 use glif::{Outline, Point};
-use basics::{NoMemory, Seq};
 use std::alloc::Global;
 
 // All points of an outline, contour by contour.

@@ -5,9 +5,9 @@ ghost use Rattle.glif.specs.Shapes.{contour_kinds};
 
 use crate::{DeltaStop, GlyphModel, advance_at, model_at, solve, solve_glyph, table};
 use arrayvec::ArrayVec;
+use basics::{NoMemory, Seq};
 use fixpoint::{Fix, Pair};
 use glif::{Outline, Point};
-use basics::{NoMemory, Seq};
 use region_support::{Location, Support};
 use std::alloc::Global;
 use variation_rules::Triple;

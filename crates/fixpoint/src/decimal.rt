@@ -74,15 +74,8 @@ fn decimals_at(text: &[u8]) -> Option<(&[u8], &[u8])>
     ensures { Agrees (λ found. (found.0.now, found.1.now)) result (decimals_at text.now) }
 {
     match text {
-        [] => Some((&[], &[])),
-        [byte, rest @ ..] => {
-            if *byte == b'.' {
-                let found = digits_at(rest)?;
-                Some(found)
-            } else {
-                Some((&[], text))
-            }
-        }
+        [b'.', rest @ ..] => digits_at(rest),
+        _ => Some((&[], text)),
     }
 }
 
@@ -111,18 +104,9 @@ fn signed_of(text: &[u8]) -> Option<Parts<'_>>
 {
     match text {
         [] => None,
-        [sign, rest @ ..] => {
-            if *sign == b'-' {
-                let number = unsigned_of(true, rest)?;
-                Some(number)
-            } else if *sign == b'+' {
-                let number = unsigned_of(false, rest)?;
-                Some(number)
-            } else {
-                let number = unsigned_of(false, text)?;
-                Some(number)
-            }
-        }
+        [b'-', rest @ ..] => unsigned_of(true, rest),
+        [b'+', rest @ ..] => unsigned_of(false, rest),
+        _ => unsigned_of(false, text),
     }
 }
 
@@ -131,8 +115,7 @@ fn signed_of(text: &[u8]) -> Option<Parts<'_>>
 fn decimal_of(text: &[u8]) -> Option<Parts<'_>>
     ensures { Agrees parts_view result (decimal_of text.now) }
 {
-    let number = signed_of(after_blanks(text))?;
-    Some(number)
+    signed_of(after_blanks(text))
 }
 
 /// The number with one more digit, or `CAP` where it is greater.

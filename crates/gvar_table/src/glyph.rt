@@ -7,8 +7,8 @@ ghost use Rattle.gvar_table.specs.Tuples.{AreTuplesOf, IsTupleOf, variation_of};
 use crate::header::push_header;
 use crate::part::pack_part;
 use crate::tuple::Tuple;
-use be_bytes::{put_bytes, put_u16};
 use basics::{NoMemory, Seq};
+use be_bytes::{put_bytes, put_u16};
 use std::alloc::Global;
 
 /// The bytes of the number of tuples and of the place of the packed parts.

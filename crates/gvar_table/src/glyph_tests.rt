@@ -1,8 +1,8 @@
 use crate::conditions::are_tuples_of;
 use crate::{Tuple, glyph_data, spelling_law};
 use arrayvec::ArrayVec;
-use fixpoint::{Fix, Pair};
 use basics::{NoMemory, Seq};
+use fixpoint::{Fix, Pair};
 use std::alloc::Global;
 use std::test::*;
 use variation_decoder::read_tuples;

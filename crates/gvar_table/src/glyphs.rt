@@ -6,8 +6,8 @@ ghost use Rattle.gvar_table.specs.Tuples.{AreTuplesOf, variation_of};
 
 use crate::glyph::glyph_data;
 use crate::tuple::Tuple;
-use be_bytes::{put_bytes, put_u16, put_u32};
 use basics::{NoMemory, Seq};
+use be_bytes::{put_bytes, put_u16, put_u32};
 use std::alloc::Global;
 
 /// The bytes of the header and of the offset after the last glyph's.

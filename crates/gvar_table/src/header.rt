@@ -6,9 +6,9 @@ ghost use Rattle.variation_rules.specs.TupleVariations.{header_bytes};
 ghost use Rattle.gvar_table.specs.Layout.{coordinate_of, header_of, is_implied, is_implied_axis};
 ghost use Rattle.gvar_table.specs.Tuples.{IsRegionAxis};
 
+use basics::NoMemory;
 use be_bytes::{put_i16, put_u16};
 use fixpoint::Fix;
-use basics::NoMemory;
 use variation_rules::Triple;
 
 /// The tupleIndex of an embedded peak and private points.

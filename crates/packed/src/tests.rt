@@ -2,7 +2,7 @@ ghost use Rattle.std.specs.Prelude.{◌↔◌, ◌^◌, IsTrue, All, FitsSigned}
 ghost use Rattle.std.specs.Int.{w16};
 ghost use Rattle.variation_rules.specs.PackedPoints.{RisesWithin};
 
-use crate::{spelling_law, pack_deltas, pack_points};
+use crate::{pack_deltas, pack_points, spelling_law};
 use basics::NoMemory;
 use std::alloc::Global;
 use std::test::*;

@@ -9,8 +9,8 @@ use crate::cut::cut_by;
 use crate::first::first_region;
 use crate::{Location, Support};
 use arrayvec::ArrayVec;
-use fixpoint::Fix;
 use basics::{NoMemory, Seq};
+use fixpoint::Fix;
 use std::alloc::Global;
 use variation_rules::Triple;
 

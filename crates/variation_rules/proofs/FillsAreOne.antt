@@ -14,7 +14,6 @@ use Rattle.variation_rules.specs.declared.filling.Moved.{Moved}
 use Rattle.variation_rules.specs.declared.tuple.TupleVariation.{TupleVariation}
 use Rattle.variation_rules.specs.declared.drawing.DrawnPoint.{DrawnPoint}
 use Rattle.variation_rules.specs.declared.drawing.DrawnGlyph.{DrawnGlyph}
-use Rattle.variation_rules.proofs.DrawingLemmas.{fills_all_named, drawn_of_one}
 use Rattle.variation_rules.proofs.InferredLemmas.{between_is_one}
 use Rattle.variation_rules.proofs.FillingLemmas.{some_is_some, delta_of_contour, none_from_before, none_from_after}
 
