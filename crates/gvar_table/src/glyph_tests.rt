@@ -4,6 +4,7 @@ use arrayvec::ArrayVec;
 use basics::{NoMemory, Seq};
 use fixpoint::{Fix, Pair};
 use std::alloc::Global;
+use std::process::Abort;
 use std::test::*;
 use variation_decoder::read_tuples;
 use variation_rules::{Triple, TupleVariation};
@@ -141,7 +142,7 @@ const CASES: [Case; 8] = [
     },
 ];
 
-/// The tuple that a plain one tells.
+/// The tuple that is expected.
 fn tuple_of(alloc: Global, expected: &Expected) -> Result<Tuple, NoMemory> {
     let mut support = ArrayVec::new();
     for &(start, peak, end) in expected.region {
@@ -166,7 +167,7 @@ fn tuple_of(alloc: Global, expected: &Expected) -> Result<Tuple, NoMemory> {
     })
 }
 
-/// The tuples that plain ones tell.
+/// The tuples that are expected.
 pub(crate) fn tuples_of(alloc: Global, expected: &[Expected]) -> Result<Seq<Tuple>, NoMemory> {
     let mut tuples = Seq::new(alloc);
     for tuple in expected {
@@ -175,31 +176,24 @@ pub(crate) fn tuples_of(alloc: Global, expected: &[Expected]) -> Result<Seq<Tupl
     Ok(tuples)
 }
 
-/// Whether the tuple that was read is the one that was written.
-fn is_same(read: &TupleVariation, written: &Tuple) -> bool {
-    read.region.as_slice() == written.support.as_slice()
-        && read.points.as_slice() == written.points.as_slice()
-        && read.deltas.as_slice() == written.deltas.as_slice()
-}
-
-/// Whether the plain reader finds the tuples in the bytes.
+/// The slow reader finds the tuples in the bytes.
 pub(crate) fn reads_back(
+    rt: &impl Abort,
     alloc: Global,
     axes: u16,
     count: u16,
     tuples: &[Tuple],
     bytes: &[u8],
-) -> Result<bool, Fail> {
+) -> Result<(), Fail> {
     let peaks = Seq::new(alloc);
     let read = read_tuples(alloc, axes, count, &peaks, bytes)?.ok_or("no reading")?;
-    let read = read.as_slice();
-    Ok(
-        read.len() == tuples.len()
-            && read
-                .iter()
-                .zip(tuples)
-                .all(|(read, written)| is_same(read, written)),
-    )
+    assert_eq!(rt; read.len(), tuples.len());
+    for (read, written) in read.as_slice().iter().zip(tuples) {
+        assert_eq!(rt; read.region.as_slice(), written.support.as_slice());
+        assert_eq!(rt; read.points.as_slice(), written.points.as_slice());
+        assert_eq!(rt; read.deltas.as_slice(), written.deltas.as_slice());
+    }
+    Ok(())
 }
 
 #[test]
@@ -210,11 +204,14 @@ fn bytes_by_hand(rt: HostRuntime) -> Result<(), Fail> {
         assert!(rt; are_tuples_of(axes, case.count, tuples.as_slice()));
         let bytes = glyph_data(rt.alloc(), axes, case.count, &tuples)?;
         assert_eq!(rt; bytes.as_slice(), case.bytes, "{}", case.name);
-        assert!(rt;
-            reads_back(rt.alloc(), case.axes, case.count, tuples.as_slice(), &bytes)?,
-            "{}",
-            case.name
-        );
+        reads_back(
+            &rt,
+            rt.alloc(),
+            case.axes,
+            case.count,
+            tuples.as_slice(),
+            &bytes,
+        )?;
     }
     Ok(())
 }
@@ -256,7 +253,7 @@ fn as_many_points_as_there_may_be(rt: HostRuntime) -> Result<(), Fail> {
         let points = if count == 4003 { 2 + 4003 + 32 } else { 1 };
         let len = 56 + points + 2 * (2 * usize::from(count) + 63);
         assert_eq!(rt; bytes.len(), len);
-        assert!(rt; reads_back(rt.alloc(), 8, 4004, tuples.as_slice(), &bytes)?);
+        reads_back(&rt, rt.alloc(), 8, 4004, tuples.as_slice(), &bytes)?;
     }
     Ok(())
 }

@@ -120,11 +120,14 @@ fn tables_by_hand(rt: HostRuntime) -> Result<(), Fail> {
             let end = *case.offsets.get(i + 1).ok_or("no end")?;
             let slice = bytes.get(start..end).ok_or("no slice")?;
             let tuples = tuples_of(rt.alloc(), glyph.tuples)?;
-            assert!(rt;
-                reads_back(rt.alloc(), case.axes, glyph.count, tuples.as_slice(), slice)?,
-                "{}",
-                case.name
-            );
+            reads_back(
+                &rt,
+                rt.alloc(),
+                case.axes,
+                glyph.count,
+                tuples.as_slice(),
+                slice,
+            )?;
         }
     }
     Ok(())
