@@ -92,11 +92,20 @@ fn deltas(
 fn numbers(rt: HostRuntime) {
     let alloc = rt.alloc();
     let found = deltas(alloc, &SQUARE, &[0, 1, 0, 1]).map(|deltas| deltas.into_vec());
-    assert_eq!(rt; found.unwrap_or(Vec::new(alloc)).as_slice(), [0, 1, 0, 0].as_slice());
+    assert_eq!(rt;
+        found.unwrap_or(Vec::new(alloc)).as_slice(),
+        [0, 1, 0, 0].as_slice()
+    );
     let found = deltas(alloc, &SQUARE, &[0, 1, 0, 0]).map(|deltas| deltas.into_vec());
-    assert_eq!(rt; found.unwrap_or(Vec::new(alloc)).as_slice(), [0, 1, 0, -1].as_slice());
+    assert_eq!(rt;
+        found.unwrap_or(Vec::new(alloc)).as_slice(),
+        [0, 1, 0, -1].as_slice()
+    );
     let found = deltas(alloc, &LINE, &[10, 30, 20]).map(|deltas| deltas.into_vec());
-    assert_eq!(rt; found.unwrap_or(Vec::new(alloc)).as_slice(), [10, 20, 10].as_slice());
+    assert_eq!(rt;
+        found.unwrap_or(Vec::new(alloc)).as_slice(),
+        [10, 20, 10].as_slice()
+    );
 
     // 16383 - (16383 - 32767 - 32767)
     let stop = deltas(alloc, &CORNERS, &[16383, -16384, -16384, 16383]).err();

@@ -14,14 +14,14 @@ use std::alloc::Global;
 pub(crate) fn fault(alloc: Global, kind: Kind, element: &Element) -> Stop
     ensures { IsStop result (spot_of kind [] (at_of (plain element.now)) (pos 0)) }
 {
-    stop_at(alloc, kind, "", element.place(), 0)
+    stop_at(alloc, kind, "", element.offset(), 0)
 }
 
 /// The stop at a fault of an attribute of the element.
 fn attribute_fault(alloc: Global, kind: Kind, name: &str, element: &Element) -> Stop
     ensures { IsStop result (spot_of kind name.now (at_of (plain element.now)) (pos 0)) }
 {
-    stop_at(alloc, kind, name, element.place(), 0)
+    stop_at(alloc, kind, name, element.offset(), 0)
 }
 
 /// The text of an attribute that has to be there.
@@ -79,7 +79,7 @@ fn ranged(
             alloc,
             Kind::CoordinateRange,
             name,
-            element.place(),
+            element.offset(),
             i64::from(number),
         ))
     }

@@ -149,7 +149,7 @@ fn line_after_off(is_on: bool, elements: &[Element], points: &[Point]) -> Option
     for (index, element) in elements.iter().enumerate() {
         let point = points.get(index)?;
         if is_line(element) && !is_on {
-            return Some(element.place());
+            return Some(element.offset());
         }
         is_on = point.on;
     }
@@ -178,7 +178,7 @@ fn closed(alloc: Global, contour: &Element, points: Seq<Point>) -> Result<Seq<Po
             alloc,
             Kind::TooManyPoints,
             "",
-            contour.place(),
+            contour.offset(),
             count as i64,
         ));
     }

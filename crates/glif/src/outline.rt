@@ -57,7 +57,7 @@ fn few(alloc: Global, outline: &Element, shapes: Shapes) -> Result<Shapes, Stop>
 {
     let count = point_count(shapes.contours.as_slice());
     if (GLYPH_POINTS as i64) < count {
-        return Err(stop_at(alloc, Kind::TooManyPoints, "", outline.place(), count));
+        return Err(stop_at(alloc, Kind::TooManyPoints, "", outline.offset(), count));
     }
     Ok(shapes)
 }

@@ -3,9 +3,9 @@ ghost use Rattle.std.specs.List.{list_all};
 ghost use Rattle.explicit_points.specs.ExplicitPoints.{is_still};
 ghost use Rattle.glyph_variations.specs.Variations.{all_deltas, explicit_in, picked};
 
+use basics::{NoMemory, Seq};
 use delta_solve::GlyphTuple;
 use fixpoint::Pair;
-use basics::{NoMemory, Seq};
 use std::alloc::Global;
 
 /// No movement.

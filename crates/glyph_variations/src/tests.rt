@@ -6,10 +6,10 @@ ghost use Rattle.glyph_variations.specs.Conditions.{AreGlyphTuples, point_count}
 
 use crate::tuples::{GlyphVariations, variations};
 use arrayvec::ArrayVec;
+use basics::{NoMemory, Seq};
 use delta_solve::{GlyphModel, GlyphTuple};
 use fixpoint::{Fix, Pair};
 use gvar_table::Tuple;
-use basics::{NoMemory, Seq};
 use region_support::Support;
 use std::alloc::Global;
 use std::process::Abort;
@@ -91,15 +91,12 @@ fn found(
 }
 
 // A tuple has this region, names these points, and moves them so.
-fn check(
-    rt: &impl Abort,
-    tuple: &Tuple,
-    region: (i32, i32, i32),
-    points: &[u16],
-    deltas: &[Pair],
-) {
+fn check(rt: &impl Abort, tuple: &Tuple, region: (i32, i32, i32), points: &[u16], deltas: &[Pair]) {
     let (start, peak, end) = region;
-    assert_eq!(rt; tuple.support.as_slice(), support(start, peak, end).as_slice());
+    assert_eq!(rt;
+        tuple.support.as_slice(),
+        support(start, peak, end).as_slice()
+    );
     assert_eq!(rt; tuple.points.as_slice(), points);
     assert_eq!(rt; tuple.deltas.as_slice(), deltas);
 }

@@ -6,11 +6,11 @@ ghost use Rattle.glyph_variations.specs.Conditions.{AreWritable, IsVariable, def
 ghost use Rattle.glyph_variations.specs.Variations.{AreVariations, IsVariation, explicit_points, outline_points};
 
 use crate::deltas::{all_deltas, are_still, explicit_in, picked};
+use basics::{NoMemory, Seq};
 use delta_solve::{GlyphModel, GlyphTuple};
 use explicit_points::explicit_points;
 use fixpoint::Pair;
 use gvar_table::Tuple;
-use basics::{NoMemory, Seq};
 use region_support::Support;
 use std::alloc::Global;
 
