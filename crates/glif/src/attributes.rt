@@ -5,9 +5,9 @@ ghost use Rattle.markup.specs.Plain.{plain};
 ghost use Rattle.glif.specs.Attributes.{coordinate, needed, number_kind, number_or_fault, optional, ranged, whole};
 
 use crate::limits::{GREATEST, LEAST};
+use basics::{Kind, Stop, stop_at};
 use fixpoint::{NumberFault, parse_whole};
 use markup::Element;
-use basics::{Kind, Stop, stop_at};
 use std::alloc::Global;
 
 /// The stop at a fault of the element.

@@ -6,9 +6,9 @@ ghost use Rattle.glif.specs.Components.{component_of, matrix, scale, unscaled};
 use crate::attributes::{fault, needed, number_or_fault, optional};
 use crate::limits::LEAST;
 use crate::shape::Component;
+use basics::{Kind, Name, Stop};
 use fixpoint::{Fix, parse_fix16};
 use markup::Element;
-use basics::{Kind, Name, Stop};
 use std::alloc::Global;
 
 /// 1 as a raw number with 16 binary places.

@@ -7,8 +7,8 @@ ghost use Rattle.glif.specs.Contours.{closed, contour_of, ends_on, is_line, is_m
 use crate::attributes::{coordinate, fault};
 use crate::limits::CONTOUR_POINTS;
 use crate::shape::Point;
-use markup::Element;
 use basics::{Kind, Seq, Stop, stop_at};
+use markup::Element;
 use std::alloc::Global;
 
 /// What a point is to its contour, by its attribute `type` (UFO 3, "GLIF", "point").

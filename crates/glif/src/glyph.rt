@@ -10,9 +10,9 @@ use crate::attributes::{fault, needed, optional};
 use crate::code::{Codes, read_code};
 use crate::outline::{Shapes, read_outline};
 use crate::shape::{Drawing, Outline};
+use basics::{Kind, Name, Stop, stop_at};
 use fixpoint::parse_whole;
 use markup::Element;
-use basics::{Kind, Name, Stop, stop_at};
 use std::alloc::Global;
 
 /// What the elements of a `glyph` have given so far.

@@ -8,8 +8,8 @@ use crate::component::read_component;
 use crate::contour::read_contour;
 use crate::limits::{GLYPH_POINTS, point_count};
 use crate::shape::{Component, Point};
-use markup::Element;
 use basics::{Kind, Seq, Stop, stop_at};
+use markup::Element;
 use std::alloc::Global;
 
 /// What the elements of an `outline` draw, in their order.

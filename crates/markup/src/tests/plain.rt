@@ -367,7 +367,11 @@ struct Context<'a> {
 }
 
 // Whether a tag is of a right form and may stand here, and where the next item stands.
-fn takes_tag<'a>(alloc: Global, index: &mut Context<'a>, item: &'a [u8]) -> Result<bool, AllocError> {
+fn takes_tag<'a>(
+    alloc: Global,
+    index: &mut Context<'a>,
+    item: &'a [u8],
+) -> Result<bool, AllocError> {
     if item.starts_with(b"</") {
         let is_right = match index.names.pop() {
             Some(name) => matches!(after_end(name, item), Some([])),
