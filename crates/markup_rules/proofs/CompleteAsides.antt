@@ -7,7 +7,7 @@ use Rattle.std.proofs.lemmas.Bool.{and_parts, and_right}
 use Rattle.std.proofs.lemmas.Bool.Decides.{nat_tests}
 use Rattle.std.proofs.lemmas.List.{take_at, drop_at, length-append}
 use Rattle.markup_rules.specs.Bytes.{is_doctype_byte, is_doctype, starts_blank}
-use Rattle.markup_rules.specs.Syntax.{Content, content_then, content_text, content_meaning, IsContent, IsWithout, aside_then, IsAsideOf, IsAside}
+use Rattle.markup_rules.specs.Syntax.{Content, content_text, content_meaning, IsContent, IsWithout, aside_then, IsAside}
 use Rattle.markup_rules.specs.Syntax as written
 use Rattle.markup_rules.specs.Reading.{Item, comment, instruction, declaration, data_between, data_to_end, body_by, markup_at, data_by, item_at, aside, doctype, content, content_of, data_markup, markup_of, comment_markup, instruction_markup, declaration_markup}
 use Rattle.markup_rules.proofs.CompleteNames.{index_again}

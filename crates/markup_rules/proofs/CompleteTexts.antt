@@ -9,7 +9,7 @@ use Rattle.std.proofs.lemmas.List.Sums.{AllPass-from_list_all}
 use Rattle.std.proofs.lemmas.Str.{IsUtf8-from_ascii, is_utf8-from_IsUtf8}
 use Rattle.markup_rules.specs.Bytes.{is_literal, is_doctype, starts_name}
 use Rattle.markup_rules.specs.Tree.{Tree, node, trees_of}
-use Rattle.markup_rules.specs.Syntax.{Content, run, content_text, content_meaning, IsContent, IsRun, Tag, tag_then, tag_attributes, IsTag, end_tag_then, aside_then, IsAside, Inside, inside_then, IsInside, own_text, children_from, Outside, white, and_aside, outside_then, IsOutside, Prolog, undeclared, declared, prolog_then, IsProlog, Root, empty_root, full_root, root_then, IsRoot, root_tree, order_mark, IsTree}
+use Rattle.markup_rules.specs.Syntax.{run, IsRun, tag_then, tag_attributes, end_tag_then, aside_then, inside_then, Outside, white, and_aside, outside_then, IsOutside, Prolog, undeclared, declared, prolog_then, IsProlog, Root, empty_root, full_root, root_then, IsRoot, root_tree, order_mark, IsTree}
 use Rattle.markup_rules.specs.Syntax as written
 use Rattle.markup_rules.specs.Reading.{declaration, data_between, data_to_end, opens, doctype, content, content_of, markup_of}
 use Rattle.markup_rules.specs.Faults.{after_mark}

@@ -8,7 +8,7 @@ use Rattle.std.proofs.lemmas.List.Folds.{list_all-append}
 use Rattle.basics.specs.declared.fault.Spot.{Spot}
 use Rattle.markup_rules.specs.Bytes.{is_doctype}
 use Rattle.markup_rules.specs.Tree.{Tree, node, trees_of}
-use Rattle.markup_rules.specs.Syntax.{IsName, Content, content_then, content_text, content_meaning, IsContent, Tag, tag_then, tag_attributes, IsTag, end_tag_then, aside_then, IsAside, Inside, inside_then, Outside, white, and_aside, outside_then, IsOutside, Prolog, undeclared, declared, prolog_then, IsProlog, Root, empty_root, full_root, root_then, IsRoot, root_tree, order_mark, IsTree}
+use Rattle.markup_rules.specs.Syntax.{Content, content_then, content_text, tag_then, tag_attributes, aside_then, IsAside, Outside, white, and_aside, outside_then, IsOutside, Prolog, undeclared, declared, prolog_then, IsProlog, Root, empty_root, full_root, root_then, IsRoot, root_tree, order_mark, IsTree}
 use Rattle.markup_rules.specs.Syntax as written
 use Rattle.markup_rules.specs.Reading.{item_at, Markup, markup_of}
 use Rattle.markup_rules.specs.Faults.{is_allowed_at}

@@ -11,7 +11,7 @@ use Rattle.basics.specs.declared.fault.Spot.{Spot}
 use Rattle.basics.specs.Reading as outside
 use Rattle.markup_rules.specs.Bytes.{starts_name}
 use Rattle.markup_rules.specs.Tree.{Tree, node, trees_of}
-use Rattle.markup_rules.specs.Syntax.{IsName, Content, run, then_reference, content_then, content_text, content_meaning, IsContent, IsRun, Tag, tag_then, tag_attributes, IsTag, end_tag_then, aside_then, IsAside, Inside, only, then_aside, then_empty, then_child, inside_then, IsInside, own_text, children_from}
+use Rattle.markup_rules.specs.Syntax.{IsName, Content, run, content_then, content_text, content_meaning, IsContent, Tag, tag_then, tag_attributes, IsTag, end_tag_then, aside_then, IsAside, Inside, only, then_aside, then_empty, then_child, inside_then, IsInside, own_text, children_from}
 use Rattle.markup_rules.specs.Syntax as written
 use Rattle.markup_rules.specs.Reading.{item_at, opens, Markup, markup_of}
 use Rattle.markup_rules.specs.Faults.{spot, lacks_end, is_allowed_at}

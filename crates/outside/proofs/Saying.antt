@@ -1,7 +1,7 @@
 -- A text that is said in pieces is said as one: nothing is said before the first piece, a piece follows
 -- what was said, and a piece that fails cuts the whole short.
-use Rattle.std.proofs.Common.{◌≡◌, ℕ, ◌+◌, ◌≤◌, ◌<◌, List, [], ◌++◌, take, drop, get_or, flat_map, length, Result, Ok, Err, refl, sym, subst, ◌∙◌, ap, append_assoc, length-append, arith}
-use Rattle.std.proofs.lemmas.List.{append-nil, drop_more, take-append-drop}
+use Rattle.std.proofs.Common.{◌≡◌, ℕ, ◌+◌, ◌≤◌, ◌<◌, List, [], ◌++◌, take, drop, get_or, flat_map, length, Result, Ok, Err, sym, subst, ◌∙◌, ap, append_assoc, length-append, arith}
+use Rattle.std.proofs.lemmas.List.{drop_more, take-append-drop}
 use Rattle.std.proofs.lemmas.Grind.{flat_map-append}
 use Rattle.outside.specs.Files.{IsPrefix, HasRisen}
 use Rattle.outside.specs.Said.{Says}

@@ -1,10 +1,9 @@
 -- What several reads of a stream give together, and what several writes to one make of it, where its
 -- bytes are known.
-use Rattle.std.proofs.Common.{◌≡◌, ℕ, ◌+◌, ◌-◌, ◌≤◌, List, [], ◌++◌, take, drop, length, Option, None, Some, Result, Ok, Err, refl, sym, ◌∙◌, ap, append_assoc, length-append, take-append-drop, arith}
-use Rattle.std.proofs.lemmas.List.{append-nil, take_rest, length-take}
-use Rattle.std.specs.Io.KnownBytes.{Keeps, Consumes, Appends, IsAtEnd, ReadConsumes, WriteAppends}
-use Rattle.std.proofs.KnownBytes.{Appends-nil, Appends-trans, Consumes-nil, Consumes-trans, Keeps-trans}
-use Rattle.outside.specs.Stream.{CountsKnown}
+use Rattle.std.proofs.Common.{◌≡◌, ℕ, ◌+◌, ◌-◌, ◌≤◌, List, [], ◌++◌, take, drop, length, Option, ◌∙◌, ap, append_assoc, length-append, take-append-drop, arith}
+use Rattle.std.proofs.lemmas.List.{take_rest, length-take}
+use Rattle.std.specs.Io.KnownBytes.{Consumes, Appends}
+use Rattle.std.proofs.KnownBytes.{Appends-trans, Consumes-trans}
 
 -- ---- one read or write, after tries that kept the stream as it was
 

@@ -1,6 +1,6 @@
 -- One axis of a region at a value: where the factor is 1, where it is 0, and what a cut leaves.
 use Rattle.std.proofs.Common.{◌≡◌, ◌≢◌, refl, sym, ◌∙◌, ap, subst, ℕ, ℤ, pos, negsuc, ◌*ℤ◌, ◌≤ℤ◌, ◌<ℤ◌, ◌<◌, true, false, true≢false, ◌⊎◌, inl, inr, arith}
-use Rattle.std.specs.Prelude.{int_lt, int_le, unsigned_abs}
+use Rattle.std.specs.Prelude.{unsigned_abs}
 use Rattle.std.specs.Ordering.{int_eq}
 use Rattle.std.proofs.lemmas.Int.{ints}
 use Rattle.fixpoint.specs.Rounding.{round_up}

@@ -1,5 +1,5 @@
 -- What the drawing comes to where a tuple names every point, and where there is one tuple.
-use Rattle.std.proofs.Common.{◌≡◌, ℕ, ℤ, zero, suc, pos, ◌+◌, ◌%◌, ◌<◌, ◌≤◌, min, ◌+ℤ◌, ◌*ℤ◌, List, [], ◌∷◌, length, take, drop, get_or, Option, Some, None, sum, refl, sym, ◌∙◌, ap, arith}
+use Rattle.std.proofs.Common.{◌≡◌, ℕ, ℤ, zero, suc, ◌+◌, ◌%◌, ◌<◌, ◌≤◌, min, ◌+ℤ◌, ◌*ℤ◌, List, [], ◌∷◌, length, take, drop, get_or, Option, Some, None, sum, refl, sym, ◌∙◌, ap, arith}
 use Rattle.std.proofs.lemmas.Bool.{eq-eqb, ne_eqb}
 use Rattle.std.proofs.lemmas.List.{get_or-take, get_or-drop, length-take, length-drop, nil_from_length, drop_more}
 use Rattle.std.proofs.lemmas.List.Sums.{sum_by-cons}
@@ -9,7 +9,7 @@ use Rattle.std.specs.Option.{unwrap_or}
 use Rattle.fixpoint.specs.declared.plane.Pair.{Pair}
 use Rattle.variation_rules.specs.PackedPoints.{count_from}
 use Rattle.variation_rules.specs.InferredDelta.{still, around, FillsContour}
-use Rattle.variation_rules.specs.DrawnOutline.{named_delta, FillsContours, movement, drawn, phantom_movement, drawn_advance}
+use Rattle.variation_rules.specs.DrawnOutline.{named_delta, FillsContours, movement, phantom_movement}
 use Rattle.variation_rules.specs.Scalar.{scalar_of}
 use Rattle.variation_rules.specs.declared.tuple.TupleVariation.{TupleVariation}
 

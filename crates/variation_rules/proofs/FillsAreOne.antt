@@ -1,14 +1,12 @@
 -- There is one list of deltas at most that fills the contours in a tuple, and so one drawing of a glyph at a location.
-use Rattle.std.proofs.Common.{◌≡◌, ℕ, ℤ, zero, suc, pos, ◌+◌, ◌-◌, ◌%◌, ◌<◌, ◌≤◌, ◌+ℤ◌, ◌*ℤ◌, sum, List, [], ◌∷◌, ◌++◌, length, take, drop, get_or, Option, Some, None, ◌⊎◌, refl, sym, ◌∙◌, ap, inl, inr, ⊎_elim, arith}
+use Rattle.std.proofs.Common.{◌≡◌, ℕ, ℤ, zero, suc, pos, ◌+◌, ◌-◌, ◌%◌, ◌<◌, ◌≤◌, ◌+ℤ◌, ◌*ℤ◌, List, [], ◌∷◌, ◌++◌, length, take, drop, get_or, Option, Some, None, ◌⊎◌, refl, sym, ◌∙◌, ap, inl, inr, ⊎_elim, arith}
 use Rattle.std.proofs.Math.Nat.{add-mod_right, mod-eq_of_lt}
 use Rattle.std.proofs.lemmas.Bool.{cases_lt, cases_eq}
-use Rattle.std.proofs.lemmas.List.{ext_get_or, take-append-drop, get_or-take}
+use Rattle.std.proofs.lemmas.List.{ext_get_or, take-append-drop}
 use Rattle.fixpoint.specs.declared.plane.Pair.{Pair}
 use Rattle.variation_rules.specs.InferredDelta.{still, around, AreNearest, FillsContour}
 use Rattle.variation_rules.specs.PointDelta.{IsInferred, IsDeltaAt}
-use Rattle.variation_rules.specs.DrawnOutline.{named_delta, FillsContours, Fills, drawn}
-use Rattle.variation_rules.specs.PackedPoints.{count_from}
-use Rattle.variation_rules.specs.Scalar.{scalar_of}
+use Rattle.variation_rules.specs.DrawnOutline.{named_delta, FillsContours, Fills}
 use Rattle.variation_rules.specs.DrawnGlyph.{IsDrawn}
 use Rattle.variation_rules.specs.declared.filling.Moved.{Moved}
 use Rattle.variation_rules.specs.declared.tuple.TupleVariation.{TupleVariation}
