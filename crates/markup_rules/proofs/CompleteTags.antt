@@ -101,7 +101,7 @@ quote_no_blank : (q : ℕ) → IsQuote q → not (is_blank q) ≡ true
 quote_no_blank q (inl e) = ap (λ b. not (is_blank b)) e
 quote_no_blank q (inr e) = ap (λ b. not (is_blank b)) e
 
-quoted_again : (q : ℕ) (bytes rest : List ℕ) → IsQuote q → list_all (λ b. not (b == q)) bytes ≡ true → quoted_at (q ∷ (bytes ++ q ∷ rest)) ≡ Some (bytes, rest)
+pub quoted_again : (q : ℕ) (bytes rest : List ℕ) → IsQuote q → list_all (λ b. not (b == q)) bytes ≡ true → quoted_at (q ∷ (bytes ++ q ∷ rest)) ≡ Some (bytes, rest)
 unfolding quoted_at
 quoted_again q bytes rest quote apart = rw (is_quote q quote, index_again q bytes rest apart, before_index bytes rest q, after_index bytes rest q) refl
 
@@ -126,7 +126,7 @@ label_again a rest is =
       after_run_again is_blank a.after_equals (a.quote ∷ content_then a.value (a.quote ∷ rest)) is.blank_after_equals (quote_no_blank a.quote is.quoted),
     ) refl
 
-attribute_again : (a : Attribute) (rest : List ℕ) → IsAttribute a → attribute_at (attribute_then a rest) ≡ Some (attribute_meaning a, rest)
+pub attribute_again : (a : Attribute) (rest : List ℕ) → IsAttribute a → attribute_at (attribute_then a rest) ≡ Some (attribute_meaning a, rest)
 unfolding attribute_at
 attribute_again a rest is = rw (label_again a rest is, value_again a.quote a.value rest is.quoted is.proper is.unquoted) refl
 
