@@ -248,6 +248,12 @@ line_from_step c1 d1 c2 d2 c q left right step =
     line_from_mean c1 d1 c2 d2 c (d1 +ℤ q) p
     (omega (arith, ints, ap (λ n. n * (p.below + p.above)) sum, times_pos q (p.below + p.above), pos_times (d2 -ℤ d1) p.below, part_of d2 d1 p.below))
 
+-- equal products put a delta on the line
+pub line_from_products : (c1 d1 c2 d2 c d : ℤ) → c1 <ℤ c → c <ℤ c2 → (d -ℤ d1) *ℤ (c2 -ℤ c1) ≡ (c -ℤ c1) *ℤ (d2 -ℤ d1) → OnLine c1 d1 c2 d2 c d
+line_from_products c1 d1 c2 d2 c d left right same =
+    let back : d1 +ℤ (d -ℤ d1) ≡ d = omega (arith, ints) in
+    subst (λ z. OnLine c1 d1 c2 d2 c z) back (line_from_step c1 d1 c2 d2 c (d -ℤ d1) left right same)
+
 -- and each delta on the line is such a step away
 pub step_from_line : (c1 d1 c2 d2 c d : ℤ) → c1 <ℤ c → c <ℤ c2 → OnLine c1 d1 c2 d2 c d → (d -ℤ d1) *ℤ (c2 -ℤ c1) ≡ (c -ℤ c1) *ℤ (d2 -ℤ d1)
 step_from_line c1 d1 c2 d2 c d left right line =
