@@ -50,7 +50,7 @@ Fails (At spot) reading = reading ≡ Err spot
 abbrev pub Gives : {X Y : Type 0} → (X → Y) → Result X Stop → Result Y Spot → Type 0
 Gives view result reading = GivesBy Fails view result reading
 
--- a fault with an item, a place and a value; the other fields are 0
+-- a fault with an item, an offset and a value; the other fields are 0
 abbrev pub spot_of : Kind → List ℕ → ℕ → ℤ → Spot
 spot_of kind item at first = record { kind = kind; item = item; at = at; also = 0; first = first; second = pos 0 }
 

@@ -74,7 +74,7 @@ pub enum Kind {
     MapOrder = 34,
     /// An axis map leads out of the range of numbers.
     MapRange = 35,
-    /// An axis map makes one place of several.
+    /// An axis map makes one coordinate of several.
     MapCollapse = 36,
     /// There are more sources than the limit.
     TooManySources = 37,

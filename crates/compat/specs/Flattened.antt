@@ -97,7 +97,7 @@ pub record AreFlattened (drawings : List Drawing) (outlines : List Outline) : Ty
   pub no_cycle : HasNoCycle (references drawings)
   pub each : AllZip (IsFlatOutline drawings) drawings outlines
 
--- the place of a refusal: its item is the name of the drawing
+-- where a refusal is: its item is the name of the drawing
 pub record IsSpotOf (drawings : List Drawing) (refusal : Refusal) (spot : Spot) : Type 0 where
   pub kind : spot.kind ≡ refusal.kind
   pub item : option_map (λ (drawing : Drawing). drawing.name) (slice_get drawings refusal.drawing) ≡ Some spot.item

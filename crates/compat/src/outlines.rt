@@ -16,7 +16,7 @@ use glif::{Drawing, Outline, Point, coordinate_outside};
 use basics::{Kind, NoMemory, Seq, Spot, Stop};
 use std::alloc::Global;
 
-/// As many places as there are drawings, with nothing made yet.
+/// As many entries as there are drawings, with nothing made yet.
 fn unknown(alloc: Global, drawings: &[Drawing]) -> Result<Vec<Flat>, NoMemory>
     ensures { IfOk result (λ flats. length flats.items ≡ length drawings.now) }
 {

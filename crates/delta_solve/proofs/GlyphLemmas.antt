@@ -70,7 +70,7 @@ fault_none faults n k whole ended so_far =
     let nothing : n - k ≡ 0 = omega arith in
     sym so_far ∙ ap (λ (m : ℕ). first_some (flat_map faults (count_from m k))) nothing
 
--- ---- the place of a point
+-- ---- the position of a point
 
 abbrev pub origin : Point
 origin = record { x = pos 0; y = pos 0; on = false }

@@ -57,7 +57,7 @@ number_append n (d ∷ prefix) back = number_append (n * 10 + (d - 48)) prefix b
 number_push : (n : ℕ) (prefix : List ℕ) (d : ℕ) → number_after n (prefix ++ d ∷ []) ≡ number_after n prefix * 10 + (d - 48)
 number_push n prefix d = number_append n prefix (d ∷ [])
 
--- a byte adds at most 207 to a place
+-- a byte adds at most 207 to a digit
 pub number_small : (n i d : ℕ) → n + 23 ≤ 23 * 10 ^ i → d ≤ 207 → (n * 10 + d) + 23 ≤ 23 * 10 ^ (i + 1)
 number_small n i d small digit = rw (add-one, pow-suc) (omega arith)
 
@@ -74,7 +74,7 @@ filled_length : (decimals : List ℕ) → 18 ≤ length (filled decimals)
 unfolding filled
 filled_length decimals = omega (arith, length-append decimals (replicate 18 48), length-replicate {A = ℕ} 18 48)
 
--- the decimal at a place
+-- the decimal at an index
 filled_at : (decimals : List ℕ) (i : ℕ) → i < 18 → get_or (filled decimals) i 0 ≡ get_or decimals i 48
 unfolding filled
 filled_at decimals i few = get_filled decimals (replicate 18 48) 18 i refl few

@@ -138,7 +138,7 @@ fn number_up_to_cap(digits: &[u8]) -> u64
     number
 }
 
-/// The decimal at a place, 0 where the decimals end before it.
+/// The decimal at an index, 0 where the decimals end before it.
 fn decimal_at(decimals: &[u8], index: usize) -> u8
     ensures { result ≡ slice_index_or decimals.now index 48 }
 {

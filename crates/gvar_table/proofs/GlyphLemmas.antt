@@ -25,7 +25,7 @@ tuple_added count tuple tuples all headers new_headers parts new_parts adds comp
     subst (λ (p : List ℕ). AreWritten count (new_headers ++ more_headers) p all) back
     (subst (λ (h : List ℕ). AreWritten count h (parts ++ (adds.part ++ more_parts)) all) prefix whole)
 
--- the same for the tuple at a place of the list
+-- the same for the tuple at an index of the list
 pub next_tuple : (count i : ℕ) (tuple : Tuple) (tuples : List Tuple) (headers new_headers parts new_parts : List ℕ) → i < length tuples → tuple ≡ get_or tuples i tuple → AddsTuple count (variation_of tuple) headers new_headers parts new_parts
     → ((more_headers more_parts : List ℕ) → AreWritten count more_headers more_parts (map variation_of (drop i tuples)) → AreWritten count (headers ++ more_headers) (parts ++ more_parts) (map variation_of tuples))
     → (more_headers more_parts : List ℕ) → AreWritten count more_headers more_parts (map variation_of (drop (i + 1) tuples)) → AreWritten count (new_headers ++ more_headers) (new_parts ++ more_parts) (map variation_of tuples)

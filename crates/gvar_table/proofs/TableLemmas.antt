@@ -35,7 +35,7 @@ glyph_added counts some_counts glyphs some_glyphs count tuples offsets new_offse
     subst (λ (d : List ℕ). StandFor counts glyphs (new_offsets ++ flat_map long (ends_from (length new_body) more)) d) back
     (subst (λ (o : List ℕ). StandFor counts glyphs o (body ++ joined (adds.own ∷ more))) prefix whole)
 
--- the same at a place of the lists
+-- the same at an index of the list
 pub next_glyph : (i count : ℕ) (counts : List ℕ) (tuples : List Tuple) (glyphs : List (List Tuple)) (offsets new_offsets body new_body : List ℕ) → i < length counts → i < length glyphs → count ≡ get_or counts i 0 → tuples ≡ get_or glyphs i tuples → AddsGlyph count tuples offsets new_offsets body new_body
     → Completes counts glyphs offsets body (drop i counts) (drop i glyphs) → Completes counts glyphs new_offsets new_body (drop (i + 1) counts) (drop (i + 1) glyphs)
 next_glyph i count counts tuples glyphs offsets new_offsets body new_body inside within count_is tuples_are adds completes =
@@ -61,7 +61,7 @@ tuples_at axes (count ∷ counts) [] i d inside each = absurd each
 tuples_at axes (count ∷ counts) (tuples ∷ glyphs) zero d inside each = each.0
 tuples_at axes (count ∷ counts) (tuples ∷ glyphs) (suc i) d inside each = tuples_at axes counts glyphs i d (omega arith) each.1
 
--- how many bytes are still wanted for the glyphs from a place on
+-- how many bytes are still wanted for the glyphs from one on
 abbrev pub wanted : ℕ → List ℕ → List (List Tuple) → ℕ
 wanted i counts glyphs = 4 * length (drop i glyphs) + 23 * points_in_tuples (drop i counts) (drop i glyphs)
 

@@ -74,7 +74,7 @@ slice_is at (own ∷ blocks) (suc g) inside =
     (sym (drop-drop (start_of (at + length own) blocks g - (at + length own)) (length own) (own ++ joined blocks)) ∙ ap (drop (start_of (at + length own) blocks g - (at + length own))) (drop_at own (joined blocks) (length own) refl))
     ∙ slice_is (at + length own) blocks g (omega arith)
 
--- the header's fields, each at its place
+-- the header's fields, each at its offset
 header_length : (axes glyphs : ℕ) → length (table_header axes glyphs) ≡ 20
 unfolding table_header
 header_length axes glyphs = refl
@@ -127,7 +127,7 @@ module _ (axes : ℕ) (blocks : List (List ℕ)) (axes_fit : axes < 2 ^ 16) (gly
       let there = at_long (0 ∷ ends_from 0 blocks) (joined blocks) g (omega (arith, ends_length 0 blocks)) in
       read_long table_bytes (20 + 4 * g) (start_of 0 blocks g) (omega (arith, starts_within 0 blocks g within)) (ap (take 4) after ∙ there)
 
-  -- after the place of the data and a glyph's start
+  -- after the offset of the data and a glyph's start
   data_after : (n : ℕ) → drop (data_offset (length blocks) + n) table_bytes ≡ drop n (joined blocks)
   data_after n =
       let prefix : List ℕ = table_header axes (length blocks) ++ offset_bytes blocks in

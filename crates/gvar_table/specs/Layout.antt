@@ -52,7 +52,7 @@ AreWritten count headers parts (tuple ∷ tuples) =
     × (parts ≡ part ++ more_parts)
     × AreWritten count more_headers more_parts tuples
 
--- the number of tuples, the place after the headers, the headers, the packed parts
+-- the number of tuples, the offset after the headers, the headers, the packed parts
 pub record IsWrittenData (count : ℕ) (bytes : List ℕ) (tuples : List TupleVariation) : Type 0 where
   pub headers : List ℕ
   pub parts : List ℕ

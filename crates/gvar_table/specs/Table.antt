@@ -25,7 +25,7 @@ pub record AreGlyphsOf (axes : ℕ) (counts : List ℕ) (glyphs : List (List Tup
 abbrev pub long : ℕ → List ℕ
 long n = to_be_bytes w32 n
 
--- where each glyph's data end, one after another from a place on
+-- where each glyph's data end, one after another from one on
 abbrev pub ends_from : ℕ → List (List ℕ) → List ℕ
 ends_from at [] = []
 ends_from at (own ∷ more) = (at + length own) ∷ ends_from (at + length own) more
@@ -38,11 +38,11 @@ offset_bytes blocks = flat_map long (0 ∷ ends_from 0 blocks)
 abbrev pub joined : List (List ℕ) → List ℕ
 joined blocks = flat_map (λ own. own) blocks
 
--- the place after the header and the offsets
+-- the offset after the header and the offsets
 abbrev pub data_offset : ℕ → ℕ
 data_offset glyphs = 24 + 4 * glyphs
 
--- version 1.0, the axes, no shared peaks and their place, the glyphs, the flag of 32-bit offsets, the place of the data
+-- version 1.0, the axes, no shared peaks and their offset, the glyphs, the flag of 32-bit offsets, the offset of the data
 unfoldable pub table_header : ℕ → ℕ → List ℕ
 table_header axes glyphs = word 1 ++ (word 0 ++ (word axes ++ (word 0 ++ (long (data_offset glyphs) ++ (word glyphs ++ (word 1 ++ long (data_offset glyphs)))))))
 

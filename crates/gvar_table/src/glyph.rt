@@ -11,7 +11,7 @@ use basics::{NoMemory, Seq};
 use be_bytes::{put_bytes, put_u16};
 use std::alloc::Global;
 
-/// The bytes of the number of tuples and of the place of the packed parts.
+/// The bytes of the number of tuples and of the offset of the packed parts.
 const COUNT_AND_OFFSET: u16 = 4;
 
 /// The variation data of a glyph (OpenType, "gvar"), in a font of so many axes, 1 to 8, for a glyph of so many

@@ -11,7 +11,7 @@ struct Glyph {
     tuples: &'static [Expected],
 }
 
-/// Glyphs and their table, worked out by hand, with the place of each glyph's data and the end.
+/// Glyphs and their table, worked out by hand, with the offset of each glyph's data and the end.
 struct Case {
     name: &'static str,
     axes: u16,

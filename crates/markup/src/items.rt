@@ -81,7 +81,7 @@ fn ends_tag(quote: Option<u8>, byte: u8) -> bool
     byte == b'<' || (byte == b'>' && quote.is_none())
 }
 
-/// The place of the byte that ends a tag, after its `<`: the first `>` outside quotes, or the first `<`.
+/// The offset of the byte that ends a tag, after its `<`: the first `>` outside quotes, or the first `<`.
 fn tag_end(bytes: &[u8]) -> Option<usize>
     ensures index { result ≡ rules.tag_end None bytes.now }
     ensures within { IfSome result (λ index. index < length bytes.now) }

@@ -54,7 +54,7 @@ fn read_items(alloc: Global, text: &[u8]) -> Result<Element, Stop>
 ///
 /// # Errors
 ///
-/// `Stop::At` with a `Spot` of a kind and a place alone, exactly where the text isn't of that form. The place
+/// `Stop::At` with a `Spot` of a kind and an offset alone, exactly where the text isn't of that form. The offset
 /// is an offset in bytes, the three in prefix included. The text is taken item by item, an item being a
 /// comment, an instruction, a declaration, a tag or the characters between; the first faulty item decides.
 /// Of one item the kind is TooDeep where it begins an element inside 64 others, at the item; Unfinished

@@ -16,7 +16,7 @@ use Rattle.basics.proofs.Runs.{all_in}
 
 -- ---- how the end of a tag is looked for
 
--- a place so many bytes further on
+-- an index so many bytes further on
 abbrev further : ℕ → Option ℕ → Option ℕ
 further n found = option_map (λ (m : ℕ). m + n) found
 

@@ -17,7 +17,7 @@ use Rattle.basics.proofs.Runs.{not_true, run_at_again, after_run_again, all_in}
 
 -- ---- runs of one class
 
--- the first place of a byte that isn't in a run before it
+-- the first index of a byte that isn't in a run before it
 pub index_again : (byte : ℕ) (bytes rest : List ℕ) → list_all (λ b. not (b == byte)) bytes ≡ true → index_of byte (bytes ++ byte ∷ rest) ≡ Some (length bytes)
 index_again byte [] rest all = rw (eq-eqb byte byte refl) refl
 index_again byte (b ∷ bytes) rest all =

@@ -19,7 +19,7 @@ context_adopted : (tree : Tree) (name : List ℕ) (f : Frame) (frames : List Fra
 context_adopted tree name f [] root declared = refl
 context_adopted tree name f (g ∷ frames) root declared = refl
 
--- the place after an item is that of the state after it
+-- the context after an item is that of the state after it
 context_changed : (at : ℕ) (markup : Markup) (frames : List Frame) (root : Option Tree) (declared : Bool)
     → context_of (changed at markup (state frames root declared)) ≡ context_after (context_of (state frames root declared)) markup
 context_changed at (start opening) frames root declared = refl

@@ -20,7 +20,7 @@ step_prefix : (test : List ℕ → Bool) (i : ℕ) (bytes : List ℕ) → 0 < le
 step_prefix test i [] some none = absurd (omega arith)
 step_prefix test i (b ∷ bytes) some none = rw none (shifted i (first_index test bytes))
 
--- one place more of a search
+-- one index more of a search
 pub first_index_step : (test : List ℕ → Bool) (bytes : List ℕ) (i : ℕ) → i < length bytes → test (drop i bytes) ≡ false
     → option_map (λ (n : ℕ). n + (i + 1)) (first_index test (drop (i + 1) bytes)) ≡ option_map (λ (n : ℕ). n + i) (first_index test (drop i bytes))
 first_index_step test bytes i within none =

@@ -23,7 +23,7 @@ use Rattle.basics.proofs.Runs.{run_whole, run_all}
 
 -- ---- runs
 
--- ---- the first place of a byte
+-- ---- the first index of a byte
 
 pub record IsIndex (byte : ℕ) (bytes : List ℕ) (n : ℕ) : Type 0 where
   pub apart : list_all (λ b. not (b == byte)) (take n bytes) ≡ true

@@ -37,7 +37,7 @@ begins_longer (m ∷ mark) (b ∷ bytes) (suc k) e =
     let parts = and_parts (m == b) (begins mark (take k bytes)) e in
     rw (parts.0, begins_longer mark bytes k parts.1) refl
 
--- the first place of a mark: the mark stands there, and nowhere before
+-- the first index of a mark: the mark stands there, and nowhere before
 record IsMark (mark bytes : List ℕ) (n : ℕ) : Type 0 where
   here : begins mark (drop n bytes) ≡ true
   before : is_none (first_index (begins mark) (take n bytes)) ≡ true

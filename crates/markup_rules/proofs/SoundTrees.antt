@@ -150,7 +150,7 @@ at_empty total at room f frames declared bytes left t tree is spelled later less
   later = child_closed total f frames declared later.rest (own_text later.inside) (empty_tree t (at + 0)) (children_from ((at + 0) + length (tag_then t (codes "/>"))) later.inside) ∙ later.later;
 }
 
--- the place within a child, and its tree
+-- the offset within a child, and its tree
 abbrev within_of : ℕ → Tag → ℕ
 within_of at t = (at + 0) + length (tag_then t (codes ">"))
 

@@ -22,7 +22,7 @@ abbrev pub is_innermost : List ℕ → List (List ℕ) → Bool
 is_innermost name [] = false
 is_innermost name (open_name ∷ names) = bytes_eq name open_name
 
--- whether an item is of a right form, and may stand at this place
+-- whether an item is of a right form, and may stand here
 abbrev pub is_allowed_at : Context → Markup → Bool
 is_allowed_at place (start opening) = not place.rooted
 is_allowed_at place (empty opening) = not place.rooted
@@ -49,12 +49,12 @@ item_fault total place entry =
     (if lacks_end place entry.item then Some (spot Unfinished total) else
     (if is_allowed_at place (markup_of entry.item) then None else Some (spot BadText (total - entry.left))))
 
--- the place after the end of the innermost element
+-- the context after the end of the innermost element
 abbrev pub closed_context : List (List ℕ) → Context → Context
 closed_context [] place = place
 closed_context (name ∷ names) place = record place { names = names; rooted = is_nil names || place.rooted }
 
--- the place after an item
+-- the context after an item
 abbrev pub context_after : Context → Markup → Context
 context_after place (start opening) = record place { names = opening.name ∷ place.names }
 context_after place (empty opening) = record place { rooted = is_nil place.names || place.rooted }
@@ -78,6 +78,6 @@ fault_from total place (entry ∷ entries) = or_else (item_fault total place ent
 abbrev pub after_mark : List ℕ → List ℕ
 after_mark text = if begins order_mark text then drop 3 text else text
 
--- the fault of a text, or none; places count the byte order mark
+-- the fault of a text, or none; offsets count the byte order mark
 unfoldable pub fault_of : List ℕ → Option Spot
 fault_of text = fault_from (length text) beginning (items_of (after_mark text))

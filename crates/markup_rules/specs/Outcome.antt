@@ -47,7 +47,7 @@ abbrev pub texted : List ℕ → List Frame → State → State
 texted text [] s = s
 texted text (f ∷ frames) s = record s { frames = record f { text = f.text ++ text } ∷ frames }
 
--- what a right item at a place makes of the state
+-- what a right item at an offset makes of the state
 abbrev pub changed : ℕ → Markup → State → State
 changed at (start opening) s = record s { frames = begun at opening ∷ s.frames }
 changed at (empty opening) s = adopted (ended (begun at opening)) s.frames s

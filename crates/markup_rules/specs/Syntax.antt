@@ -205,7 +205,7 @@ own_text (then_aside c aside more) = content_meaning c ++ own_text more
 own_text (then_empty c tag more) = content_meaning c ++ own_text more
 own_text (then_child c tag inside blanks more) = content_meaning c ++ own_text more
 
--- the children, where the inside begins at a place of the file
+-- the children, where the inside begins at an offset of the file
 abbrev pub children_from : ℕ → Inside → List Tree
 children_from at (only c) = []
 children_from at (then_aside c aside more) = children_from (at + length (content_then c (aside_then aside []))) more
@@ -260,7 +260,7 @@ abbrev pub IsRoot : Root → Type 0
 IsRoot (empty_root tag) = IsTag tag
 IsRoot (full_root tag inside blanks) = IsTag tag × IsInside 63 inside × AreBlanks blanks
 
--- the root's tree, where it begins at a place of the file
+-- the root's tree, where it begins at an offset of the file
 abbrev pub root_tree : ℕ → Root → Tree
 root_tree at (empty_root tag) = node tag.name (tag_attributes tag) (trees_of []) [] at
 root_tree at (full_root tag inside blanks) =

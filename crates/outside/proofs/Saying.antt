@@ -21,7 +21,7 @@ pub cut_after : (a t u b c : List ℕ) → b ≡ a ++ t → IsPrefix b c × IsPr
 cut_after a t u b c e (before, (rest, k)) =
     (prefix_before a t c (rw e at before), (rest, k ∙ ap (λ l. l ++ u) e ∙ append_assoc a t u))
 
--- a room that has no place for the second text after the first has none for both
+-- a room that has no room for the second text after the first has none for both
 pub full_after : (a t u b : List ℕ) (room_a room_b : ℕ) → b ≡ a ++ t → room_b ≡ room_a
     → room_b < length b + length u → room_a < length a + length (t ++ u)
 full_after a t u b room_a room_b e k full = omega (arith, length-append a t, length-append t u, ap length e)

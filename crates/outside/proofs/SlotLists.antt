@@ -1,4 +1,4 @@
--- A write to the first place with a path, seen by paths.
+-- A write to the first slot with a path, seen by paths.
 use Rattle.std.proofs.Common.{◌≡◌, ℕ, ◌+◌, ◌<◌, ◌≤◌, Bool, true, false, cond, List, [], ◌∷◌, ◌++◌, length, get_or, map, Option, Some, None, refl, sym, ◌∙◌, ap, subst, arith}
 use Rattle.std.proofs.Math.ListN.{set}
 use Rattle.std.proofs.Math.Seq.{map-set_same}
@@ -15,7 +15,7 @@ use Rattle.outside.specs.Stored.{Fits, fitting, fitting_in}
 use Rattle.outside.specs.FirstAt.{first_room}
 use Rattle.outside.specs.SlotState.{SlotState, empty_slot, slot_at, held_in, room_in, paths_of, index_of, path_at, IsFirst, Writes}
 
--- whether a place has this path
+-- whether a slot has this path
 abbrev pub has_path : List ℕ → SlotState → Bool
 has_path path slot = bytes_eq slot.path path
 
@@ -23,7 +23,7 @@ prefix_len-map : (p : List ℕ → Bool) (slots : List SlotState) → prefix_len
 prefix_len-map p [] = refl
 prefix_len-map p (x ∷ xs) = ap (λ n. cond (p x.path) (1 + n) 0) (prefix_len-map p xs)
 
--- a path's index is that of the first place with it
+-- a path's index is that of the first slot with it
 pub index_of-paths : (slots : List SlotState) (path : List ℕ) → index_of (paths_of slots) path ≡ position (has_path path) slots
 index_of-paths slots path =
     rw (prefix_len-map (λ p. not (bytes_eq p path)) slots, length-map) refl
@@ -32,11 +32,11 @@ cond-Some : (b : Bool) (n i : ℕ) → cond b (Some n) None ≡ Some i → n ≡
 cond-Some true n i e = cc
 cond-Some false n i e = cc
 
--- a place whose file holds these bytes
+-- a slot whose file holds these bytes
 abbrev pub holding : SlotState → List ℕ → SlotState
 holding slot bytes = record slot { held = Some bytes }
 
--- what it means that place i, which is old, is the first with this path
+-- what it means that slot i, which is old, is the first with this path
 pub record FirstAt (slots : List SlotState) (i : ℕ) (path : List ℕ) (old : SlotState) : Type 0 where
   pub below : i < length slots
   pub is : get_or slots i old ≡ old
@@ -55,13 +55,13 @@ first_at slots i path old e is =
       index = sym (cond-Some _ _ _ found);
     }
 
--- the first place with a path is what a look-up of that path gives
+-- the first slot with a path is what a look-up of that path gives
 pub slot_at-first : (slots : List SlotState) (i : ℕ) (path : List ℕ) (old : SlotState) → FirstAt slots i path old → slot_at slots path ≡ Some old
 slot_at-first slots i path old first =
     find_at (has_path path) slots ∙ ap (slice_get slots) (sym first.index)
     ∙ slice_get-get_or slots i old first.below ∙ ap Some first.is
 
--- after a write to it, a look-up gives the new place for its path, and what it gave for the others
+-- after a write to it, a look-up gives the new slot for its path, and what it gave for the others
 pub slot_at-set : (slots : List SlotState) (i : ℕ) (path : List ℕ) (old new : SlotState) → FirstAt slots i path old → new.path ≡ path →
     (q : List ℕ) → slot_at (set slots i new) q ≡ cond (bytes_eq path q) (Some new) (slot_at slots q)
 slot_at-set slots i path old new first same q = by_test (bytes_eq path q) refl
@@ -75,7 +75,7 @@ slot_at-set slots i path old new first same q = by_test (bytes_eq path q) refl
         find_past (has_path q) slots i new old (ap (λ slot. bytes_eq slot.path q) first.is ∙ ap (λ p. bytes_eq p q) first.path_is ∙ e)
         (ap (λ p. bytes_eq p q) same ∙ e)
 
--- the first place's file is written, and nothing else
+-- the first slot's file is written, and nothing else
 module _ (slots : List SlotState) (i : ℕ) (path bytes : List ℕ) (old new : SlotState) (first : FirstAt slots i path old)
     (same : new.path ≡ path) (size : new.size ≡ old.size) (held : new.held ≡ Some bytes) where
   files-set : (q : List ℕ) → held_in (set slots i new) q ≡ put (held_in slots) path bytes q
@@ -105,13 +105,13 @@ module _ (slots : List SlotState) (i : ℕ) (path bytes : List ℕ) (old new : S
     paths = map-set_same (λ (slot : SlotState). slot.path) slots i new old (same ∙ sym first.path_is ∙ sym (ap (λ (slot : SlotState). slot.path) first.is));
   }
 
--- the same where the new place is told by the old one
+-- the same where the new slot is told by the old one
 pub Writes-held : (slots : List SlotState) (i : ℕ) (path bytes : List ℕ) (old new : SlotState) → FirstAt slots i path old →
     new ≡ holding old bytes → Writes slots (set slots i new) path bytes
 Writes-held slots i path bytes old new first e =
     Writes-set slots i path bytes old new first (ap (λ slot. slot.path) e ∙ first.path_is) (ap (λ slot. slot.size) e) (ap (λ slot. slot.held) e)
 
--- what a path holds, and its room, are those of the first place with it
+-- what a path holds, and its room, are those of the first slot with it
 pub content-first : (slots : List SlotState) (i : ℕ) (path : List ℕ) (old : SlotState) → FirstAt slots i path old →
     content (held_in slots) path ≡ unwrap_or old.held []
 content-first slots i path old first =
@@ -122,14 +122,14 @@ pub room-first : (slots : List SlotState) (i : ℕ) (path : List ℕ) (old : Slo
 room-first slots i path old first =
     ap (option_map (λ (p : SlotState). p.size)) (slot_at-first slots i path old first)
 
--- a piece fits the room of a path exactly where it fits that of the first place with it
+-- a piece fits the room of a path exactly where it fits that of the first slot with it
 pub Fits-first : (slots : List SlotState) (i : ℕ) (path : List ℕ) (more : ℕ) (old : SlotState) → FirstAt slots i path old →
     Fits (room_in slots path) (length (content (held_in slots) path)) more ≡ (length (unwrap_or old.held []) + more ≤ old.size)
 Fits-first slots i path more old first =
     ap (λ room. Fits room (length (content (held_in slots) path)) more) (room-first slots i path old first)
     ∙ ap (λ held. length held + more ≤ old.size) (content-first slots i path old first)
 
--- the first place with a path takes the start of a piece that fits its room
+-- the first slot with a path takes the start of a piece that fits its room
 pub Writes-added : (slots : List SlotState) (i : ℕ) (path piece : List ℕ) (old new : SlotState) → FirstAt slots i path old →
     new ≡ holding old (unwrap_or old.held [] ++ fitting old.size (unwrap_or old.held []) piece) →
     Writes slots (set slots i new) path (content (held_in slots) path ++ fitting_in (room_in slots path) (content (held_in slots) path) piece)
@@ -151,7 +151,7 @@ IsFirst-index_of paths path = by_index (index_of paths path) refl
     by_index None e = refl
     by_index (Some i) e = ap (option_and_then (index_of paths)) (path_at-index_of paths path i e) ∙ e
 
--- a look-up among new places is one among the rooms that they were made for
+-- a look-up among new slots is one among the rooms that they were made for
 pub slot_at-empty : (rooms : List (List ℕ × ℕ)) (q : List ℕ) →
     slot_at (map empty_slot rooms) q ≡ option_map empty_slot (find (λ room. bytes_eq room.0 q) rooms)
 slot_at-empty [] q = refl
@@ -162,7 +162,7 @@ slot_at-empty (room ∷ rooms) q = by_test (bytes_eq room.0 q) (slot_at-empty ro
     by_test true e = refl
     by_test false e = e
 
--- new places hold nothing
+-- new slots hold nothing
 pub held_in-empty : (rooms : List (List ℕ × ℕ)) (q : List ℕ) → held_in (map empty_slot rooms) q ≡ None
 held_in-empty rooms q =
     ap (option_and_then (λ (slot : SlotState). slot.held)) (slot_at-empty rooms q) ∙ by_room (find (λ room. bytes_eq room.0 q) rooms)
@@ -185,7 +185,7 @@ cond-None : (b : Bool) (n : ℕ) → cond b (Some n) None ≡ None → b ≡ fal
 cond-None true n e = cc
 cond-None false n e = refl
 
--- a path that no place has has no room
+-- a path that no slot has has no room
 pub room_in-None : (slots : List SlotState) (path : List ℕ) → index_of (paths_of slots) path ≡ None → room_in slots path ≡ None
 room_in-None slots path e =
     let absent : position (has_path path) slots ≡ None = sym (index_of-paths slots path) ∙ e in
@@ -193,7 +193,7 @@ room_in-None slots path e =
     ap (option_map (λ (slot : SlotState). slot.size))
     (find_at (has_path path) slots ∙ slice_get_past slots (position_or_len (has_path path) slots) (grind (arith, nat_tests)))
 
--- and one that a place has has some
+-- and one that a slot has has some
 pub room_in-Some : (slots : List SlotState) (path : List ℕ) (i : ℕ) → index_of (paths_of slots) path ≡ Some i → IsSome (room_in slots path)
 room_in-Some slots path i e =
     let found : position (has_path path) slots ≡ Some i = sym (index_of-paths slots path) ∙ e in

@@ -1,9 +1,9 @@
--- What every function that says a text makes of the place where it says it.
+-- What every function that says a text makes of where it says it.
 use Rattle.std.specs.Prelude.{◌≡◌, ◌+◌, ◌≤◌, ◌<◌, ℕ, List, ◌++◌, length, Result, OnOk, OnErr}
 use Rattle.outside.specs.Files.{IsPrefix, HasRisen}
 use Rattle.outside.specs.States.{SayState}
 
--- The states are those of the place as the call begins and as it ends. The text is said whole at Ok, and cut short at an
+-- The states are those before and after the call, as the call begins and as it ends. The text is said whole at Ok, and cut short at an
 -- error.
 pub record Says {V E : Type 0} (old new : SayState) (text : List ℕ) (result : Result V E) : Type 0 where
   pub told : old.tells → new.tells

@@ -1,4 +1,4 @@
--- Places for files in memory, as a list in which of two equal paths the first counts.
+-- Slots for files in memory, as a list in which of two equal paths the first counts.
 use Rattle.std.specs.Prelude.{◌≡◌, ℕ, List, map, Option, None, option_map, option_and_then, bytes_eq, position, slice_get}
 use Rattle.std.specs.List.{find}
 use Rattle.outside.specs.Files.{Files, put}
@@ -9,11 +9,11 @@ pub record SlotState : Type 0 where
   pub size : ℕ
   pub held : Option (List ℕ)
 
--- the first place with this path
+-- the first slot with this path
 abbrev pub slot_at : List SlotState → List ℕ → Option SlotState
 slot_at slots path = find (λ slot. bytes_eq slot.path path) slots
 
--- what the places hold
+-- what the slots hold
 abbrev pub held_in : List SlotState → Files
 held_in slots path = option_and_then (λ slot. slot.held) (slot_at slots path)
 
@@ -21,7 +21,7 @@ held_in slots path = option_and_then (λ slot. slot.held) (slot_at slots path)
 abbrev pub room_in : List SlotState → List ℕ → Option ℕ
 room_in slots path = option_map (λ slot. slot.size) (slot_at slots path)
 
--- the paths of the places, in order
+-- the paths of the slots, in order
 abbrev pub paths_of : List SlotState → List (List ℕ)
 paths_of slots = map (λ slot. slot.path) slots
 
@@ -43,6 +43,6 @@ pub record Writes (old new : List SlotState) (path bytes : List ℕ) : Type 0 wh
   pub rooms : room_in new ≡ room_in old
   pub paths : paths_of new ≡ paths_of old
 
--- a place with no file
+-- a slot with no file
 abbrev pub empty_slot : List ℕ × ℕ → SlotState
 empty_slot room = record { path = room.0; size = room.1; held = None }

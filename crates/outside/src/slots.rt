@@ -24,7 +24,7 @@ impl Model for Slots {
 }
 
 impl Slots {
-    /// Places with these paths and room for these many bytes, all of which is taken now, and no file.
+    /// Slots with these paths and room for these many bytes, all of which is taken now, and no file.
     pub(crate) fn new(alloc: Global, rooms: Seq<(Name, u64)>) -> Result<Slots, NoMemory>
         ensures { IfOk result (λ slots. slots ≡ map empty_slot rooms) }
     {
@@ -37,21 +37,21 @@ impl Slots {
         Ok(Slots { items })
     }
 
-    /// The index of the first place with this path.
+    /// The index of the first slot with this path.
     fn index_of(&self, path: &str) -> Option<usize>
         ensures { result ≡ position (λ slot. bytes_eq slot.path path.now) self.now }
     {
         self.items.iter().position(|slot| slot.path() == path)
     }
 
-    /// The first place with this path.
+    /// The first slot with this path.
     fn find(&self, path: &str) -> Option<&Slot>
         ensures { option_map (λ slot. slot.now) result ≡ slot_at self.now path.now }
     {
         self.items.iter().find(|slot| slot.path() == path)
     }
 
-    /// What the first place with this path holds.
+    /// What the first slot with this path holds.
     pub(crate) fn held(&self, path: &str) -> Option<&[u8]>
         ensures { option_map (λ bytes. bytes.now) result ≡ held_in self.now path.now }
     {
@@ -59,7 +59,7 @@ impl Slots {
         slot.held()
     }
 
-    /// Makes the first place with this path hold no bytes, and answers its index.
+    /// Makes the first slot with this path hold no bytes, and answers its index.
     pub(crate) fn begin(&mut self, path: &str) -> Option<usize>
         ensures index { result ≡ index_of (paths_of self.old) path.now }
         ensures some { OnSome result (Writes self.old self.new path.now []) }
@@ -70,7 +70,7 @@ impl Slots {
         Some(index)
     }
 
-    /// Adds the start of the piece that fits to the place at this index, and answers whether it is the
+    /// Adds the start of the piece that fits to the slot at this index, and answers whether it is the
     /// whole piece.
     pub(crate) fn add(&mut self, index: usize, piece: &[u8]) -> bool
         requires { index < length self.old }

@@ -82,7 +82,7 @@ pub trait Outputs {
         ensures full { (state self.old).is_sure → (state self.old).tells → (path : List ℕ) → (state self.old).begun ≡ Some path → OnErr result (Exceeds ((state self.old).room path) (length (content (state self.old).files path)) (length bytes.now)) };
 }
 
-/// A place to say text.
+/// Where text is said.
 ///
 /// Its state is told by one record. Where it `tells`, `said` is all that was said. `faults` counts the calls
 /// that failed, and never falls. One that `is_sure` fails only where the text said would exceed its `room`.

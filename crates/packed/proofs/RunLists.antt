@@ -14,7 +14,7 @@ all_of_both P (value ∷ prefix) back all =
     let rest = all_of_both P prefix back (All-tail P value (prefix ++ back) all) in
     (All-cons P value prefix (All-head P value (prefix ++ back) all) rest.0, rest.1)
 
--- Of two ways to cut one list, they cut at one place, or the second cuts after the first, or before it.
+-- Of two ways to cut one list, they cut at one index, or the second cuts after the first, or before it.
 by_cut : {P X : Type 0} (a b c d : List X) → a ++ b ≡ c ++ d → (a ≡ c → b ≡ d → P) → ((v : X) (w : List X) → c ≡ a ++ v ∷ w → b ≡ (v ∷ w) ++ d → P) → ((v : X) (w : List X) → a ≡ c ++ v ∷ w → d ≡ (v ∷ w) ++ b → P) → P
 by_cut [] b [] d e same beyond before = same refl e
 by_cut [] b (v ∷ w) d e same beyond before = beyond v w refl e

@@ -1,5 +1,5 @@
 -- What a property list means (Apple's property lists in XML, as UFO 3 uses them), or its first fault: the first
--- element that may not stand at its place, or the one that lacks a child. An element comes before its children,
+-- element that may not stand where it does, or the one that lacks a child. An element comes before its children,
 -- and these come in order, each with all in it.
 use Rattle.std.specs.Prelude.{ℕ, pos, Bool, true, false, ◌||◌, List, [], ◌∷◌, codes, Result, Ok, Err, if◌then◌else◌}
 use Rattle.std.specs.Str.{bytes_eq}
@@ -70,7 +70,7 @@ value_by Unread tree items entries = leaf_value value.other tree
 value_by Unknown tree items entries = fault tree
 
 abbrev mutual
-  -- the value at a value's place
+  -- the value where a value stands
   pub value_at : Tree → Result PlainValue Spot
   value_at (node name attributes children text at) =
       let here = node name attributes children text at in

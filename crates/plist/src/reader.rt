@@ -17,7 +17,7 @@ use markup::Element;
 use basics::{Kind, Name, Stop, stop_at};
 use std::alloc::Global;
 
-/// The stop at an element that may not stand at its place, or that lacks a child.
+/// The stop at an element that may not stand where it does, or that lacks a child.
 fn fault(alloc: Global, element: &Element) -> Stop
     ensures { IsStop result (rules.spot_at (plain element.now)) }
 {
@@ -149,7 +149,7 @@ fn read_dict(alloc: Global, element: &Element) -> Result<Value, Stop>
     Ok(Value::Dict(entries))
 }
 
-/// The value that an element at a value's place is.
+/// The value that an element where a value stands is.
 #[cycle(plist)]
 #[tactic(auto, using(crate::proofs::Forms::value_is))]
 fn read_value(alloc: Global, element: &Element) -> Result<Value, Stop>
@@ -202,7 +202,7 @@ fn read_list(alloc: Global, tree: &Element) -> Result<Value, Stop>
 ///
 /// # Errors
 ///
-/// `Stop::At` with the kind NotPlist and a place alone, exactly where the tree isn't of that form. The place is
+/// `Stop::At` with the kind NotPlist and an offset alone, exactly where the tree isn't of that form. The offset is
 /// the offset in bytes of the first element that may not stand where it is, or of the `plist` or `dict` that
 /// lacks a child. An element comes before what is in it, its children come in order, each with all in it, and
 /// a missing child comes after them. `Stop::NoMemory` where memory ran out.

@@ -58,7 +58,7 @@ const VALUES: [(&str, &str); 28] = [
     ),
 ];
 
-/// Texts that aren't property lists, with the place of the fault.
+/// Texts that aren't property lists, with the offset of the fault.
 const FAULTS: [(&str, u64); 25] = [
     ("<dict/>", 0),
     ("<Plist><true/></Plist>", 0),
@@ -90,7 +90,7 @@ const FAULTS: [(&str, u64); 25] = [
     ),
 ];
 
-/// Texts with two faults that are next to each other in the order of tests, with the place of the first.
+/// Texts with two faults that are next to each other in the order of tests, with the offset of the first.
 const FIRST_OF_TWO: [(&str, u64); 20] = [
     // A name, and what is in it.
     ("<list><x/></list>", 0),

@@ -88,7 +88,7 @@ excluded at region (other ∷ others) vs formed same differs few (inl here) =
 excluded at region (other ∷ others) vs formed same differs few (inr there) =
     excluded at (cut_by region other) others vs (meets_formed at region other formed) same differs few there
 
--- what the law uses of the order: later masters have no fewer axes, and other places
+-- what the law uses of the order: later masters have no fewer axes, and other locations
 abbrev pub IsLater : List ℤ → List ℤ → Type 0
 IsLater at other = (rank at ≤ rank other) × (length at ≡ length other) × (at ≢ other)
 

@@ -10,7 +10,7 @@ use fixpoint::Fix;
 use std::cmp::Reverse;
 
 /// What orders a master among all: its fields, one after the other. The number comes last, where it decides
-/// nothing, since no two masters stand at one place.
+/// nothing, since no two masters stand at one location.
 #[derive(Drop, PartialEq, Eq, PartialOrd, Ord)]
 pub(crate) struct Key {
     /// On how many axes the master isn't at the default.

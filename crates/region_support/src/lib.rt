@@ -19,7 +19,7 @@ pub use sorting::{ModelStop, in_order, order};
 pub use support::boxes;
 pub use variation_rules::Triple;
 
-/// A place in the design space: one normalised coordinate an axis (F2DOT14), in the font's order of axes, at
+/// A point of the design space: one normalised coordinate an axis (F2DOT14), in the font's order of axes, at
 /// most eight.
 pub type Location = ArrayVec<Fix<14>, 8>;
 

@@ -108,7 +108,7 @@ fn sorted_numbers(alloc: Global, locations: &[Location]) -> Result<Seq<u32>, NoM
 
 /// The numbers of the locations, counted from 0 as they are listed, in the order of masters: those that are off the
 /// default on fewer axes come first, then those that stand at more axis points, then the axes, the sides and the
-/// distances from the default decide, item by item. An axis point is the place of a master that is off the default on
+/// distances from the default decide, item by item. An axis point is the coordinate of a master that is off the default on
 /// that axis alone. The default is the first.
 pub fn order(alloc: Global, locations: &Seq<Location>) -> Result<Seq<u32>, ModelStop>
     requires lengths { All (λ at. array_vec_len at ≡ axes_of (coordinates_of locations.now)) locations.now }

@@ -27,7 +27,7 @@ const TUPLE_COUNT: u16 = 0x0FFF;
 pub struct DataHeader {
     /// The word with the number of tuples.
     pub count: u16,
-    /// The place at which the packed data begin, as the data say it.
+    /// The offset at which the packed data begin, as the data say it.
     pub offset: u16,
     /// The headers, one for each tuple.
     pub heads: Seq<Head>,

@@ -124,7 +124,7 @@ abbrev pub shared_bits : Option (List ℕ) → ℕ
 shared_bits None = 0
 shared_bits (Some _) = 32768
 
--- The data of one glyph: the number of tuples with 0x8000 for shared points, the place after the headers,
+-- The data of one glyph: the number of tuples with 0x8000 for shared points, the offset after the headers,
 -- the headers, the shared points, the packed parts.
 pub record IsGlyphData (Points : ℕ → List ℕ → List ℕ → Type 0) (Deltas : List ℕ → List ℤ → Type 0) (axes total : ℕ) (peaks : List (List ℤ)) (bytes : List ℕ) (tuples : List TupleVariation) : Type 0 where
   pub shared_points : Option (List ℕ)

@@ -157,7 +157,7 @@ fn all_filled(
 }
 
 /// What tuple variations draw over a glyph's default drawing at a location (OpenType, "gvar"): each
-/// outline point at its default place plus, for each tuple, its delta times the scalar of the tuple's
+/// outline point where the default has it plus, for each tuple, its delta times the scalar of the tuple's
 /// region, and the advance likewise by the second phantom point. `lengths` are the numbers of points
 /// of the contours, and `points` and `advance` the default drawing in font units; points and deltas fit
 /// 16 bits, and there are fewer than 65,536 tuples. `None` where some inferred delta is no whole number.

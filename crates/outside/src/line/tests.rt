@@ -8,7 +8,7 @@ use super::*;
 use basics::Kind;
 use std::test::Fail;
 
-// A place that keeps what is said to it.
+// What keeps all that is said to it.
 #[derive(Drop)]
 struct Page {
     text: Vec<u8>,

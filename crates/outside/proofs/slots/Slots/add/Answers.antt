@@ -1,4 +1,4 @@
--- The place at the index is the first with its path.
+-- The slot at the index is the first with its path.
 use Rattle.std.proofs.Common.{length}
 use Rattle.outside.proofs.SlotLists.{first_at, Fits-first, Writes-added}
 use Rattle.outside.proofs.slots.Slots.add.Goals as goal

@@ -1,4 +1,4 @@
--- The place at the index that was found is the first with the path.
+-- The slot at the index that was found is the first with the path.
 use Rattle.std.proofs.Common.{◌≡◌, [], Some, sym, ◌∙◌}
 use Rattle.outside.specs.SlotState.{paths_of, index_of}
 use Rattle.outside.proofs.SlotLists.{index_of-paths, first_at, Writes-held}

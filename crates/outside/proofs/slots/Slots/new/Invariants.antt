@@ -1,4 +1,4 @@
--- A place was made for each room so far.
+-- A slot was made for each room so far.
 use Rattle.std.proofs.Common.{◌≡◌, map}
 use Rattle.outside.specs.SlotState.{empty_slot}
 use Rattle.outside.proofs.slots.Slots.new.Given as goal

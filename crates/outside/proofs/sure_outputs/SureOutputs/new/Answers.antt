@@ -1,4 +1,4 @@
--- The places were made for the rooms, with no file.
+-- The slots were made for the rooms, with no file.
 use Rattle.std.proofs.Common.{◌∙◌, ap}
 use Rattle.outside.specs.SlotState.{held_in, room_in}
 use Rattle.outside.proofs.SlotLists.{held_in-empty, room_in-empty}

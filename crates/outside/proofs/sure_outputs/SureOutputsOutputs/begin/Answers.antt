@@ -1,4 +1,4 @@
--- The index that was found is that of the first place with the path.
+-- The index that was found is that of the first slot with the path.
 use Rattle.std.proofs.Common.{◌∙◌, sym, ap, subst, Some}
 use Rattle.outside.specs.SlotState.{paths_of, path_at, IsFirst}
 use Rattle.outside.proofs.SlotLists.{room_in-None, room_in-Some, path_at-index_of, IsFirst-index_of}
