@@ -1,5 +1,7 @@
+pub mod BitLemmas
 pub mod SideLemmas
 pub mod SightLemmas
+pub mod ViewLemmas
 pub mod TableLemmas
 pub mod RowLemmas
 pub mod StartLemmas

@@ -8,12 +8,14 @@
 #![tactic(auto)]
 
 mod answer;
+mod bits;
 mod row;
 mod search;
 mod side;
 mod sight;
 mod starts;
 mod table;
+mod view;
 #[cfg(test)]
 mod tests;
 mod way;

@@ -76,30 +76,8 @@ impl Relative {
         requires other { IsRelative other }
         ensures { IsTrue result ↔ Collinear self other }
     {
-        is_same(times(self.step, other.way), times(self.way, other.step))
+        self.step * other.way == self.way * other.step
     }
-}
-
-fn times(a: i64, b: i64) -> i64
-    requires a { IsSpan a }
-    requires b { IsSpan b }
-    ensures { result ≡ a *ℤ b }
-{
-    a * b
-}
-
-/// Whether two numbers are equal.
-pub fn is_same(a: i64, b: i64) -> bool
-    ensures { IsTrue result ↔ (a ≡ b) }
-{
-    a == b
-}
-
-/// Whether both hold.
-pub fn both(first: bool, second: bool) -> bool
-    ensures { IsTrue result ↔ (IsTrue first × IsTrue second) }
-{
-    first && second
 }
 
 impl Nearest {
@@ -157,7 +135,7 @@ impl Farthest {
         ensures farthest { IsFarthest result }
         ensures allows { (end : Relative) → (AllowsFar result end ↔ (AllowsFar self end × (end.way ≤ℤ point.way → point.step ≡ end.step))) }
     {
-        if is_same(point.step, self.at.step) {
+        if point.step == self.at.step {
             if self.at.way < point.way {
                 Farthest {
                     at: point,
@@ -187,7 +165,7 @@ impl Farthest {
         if self.at.way < end.way {
             true
         } else if self.torn < end.way {
-            is_same(self.at.step, end.step)
+            self.at.step == end.step
         } else {
             false
         }
@@ -222,7 +200,7 @@ impl Side {
     {
         if point.way <= 0 {
             Side {
-                level_behind: both(self.level_behind, is_same(point.step, 0)),
+                level_behind: self.level_behind && point.step == 0,
                 nearest: self.nearest,
                 farthest: self.farthest,
             }
@@ -242,5 +220,15 @@ impl Side {
         ensures { IsTrue result ↔ Allows self end }
     {
         self.level_behind && self.nearest.allows(end) && self.farthest.allows(end)
+    }
+
+    /// Whether no second reference is left open: some point at or before the first one moves otherwise, or
+    /// the first point off the nearest one's line is no farther than the last one that moves otherwise
+    /// than the farthest. What is closed stays closed, since each point seen leaves less open.
+    pub fn is_closed(&self) -> bool
+        requires { IsSide self.now }
+        ensures { IsTrue result → (end : Relative) → Allows self.now end → ⊥ }
+    {
+        !self.level_behind || self.nearest.off <= self.farthest.torn
     }
 }

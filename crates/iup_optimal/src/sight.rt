@@ -3,7 +3,7 @@ ghost use Rattle.variation_rules.specs.FontUnits.{IsReference};
 ghost use Rattle.iup_optimal.specs.Sides.{IsSight, Admits, BetweenThem};
 ghost use Rattle.variation_rules.specs.declared.inferred.Reference.{Reference};
 
-use crate::side::{Relative, Side, both, is_same};
+use crate::side::{Relative, Side};
 use variation_rules::Reference;
 
 /// What the points seen so far after the first reference of an arc leave open for the second one, in one
@@ -47,8 +47,8 @@ impl Sight {
         let relative = Relative::between(self.first, point);
         Sight {
             first: self.first,
-            level: both(self.level, is_same(relative.step, 0)),
-            still: both(self.still, is_same(point.delta, 0)),
+            level: self.level && relative.step == 0,
+            still: self.still && point.delta == 0,
             above: self.above.seeing(relative),
             below: self.below.seeing(relative.turned()),
         }
@@ -65,10 +65,21 @@ impl Sight {
             self.above.allows(relative)
         } else if relative.way < 0 {
             self.below.allows(relative.turned())
-        } else if is_same(relative.step, 0) {
+        } else if relative.step == 0 {
             self.level
         } else {
             self.still
         }
+    }
+
+    /// Whether no second reference is left open, after these points and after any more.
+    pub fn is_closed(&self) -> bool
+        requires { IsSight self.now }
+        ensures { IsTrue result → (end : Reference) → Admits self.now end → ⊥ }
+    {
+        if self.level || self.still {
+            return false;
+        }
+        self.above.is_closed() && self.below.is_closed()
     }
 }

@@ -1,15 +1,20 @@
-use Rattle.std.proofs.Common.{FitsSigned, to_z-of_z, arith}
+use Rattle.std.proofs.Common.{◌≡◌, ◌↔◌, IsTrue, FitsSigned, pos, sym, ◌∙◌, arith}
 use Rattle.std.proofs.lemmas.Int.{ints}
 use Rattle.std.specs.Int.{w64}
+use Rattle.iup_optimal.proofs.SideLemmas.{tests_same}
 use Rattle.iup_optimal.proofs.SightLemmas.{side_behind, side_ahead}
 use Rattle.iup_optimal.proofs.side.Side.seeing.Goals as goal
+use Rattle.iup_optimal.proofs.side.Side.seeing.Goals.{then-self, else-self}
 
-pub returns-then-point-le0-clause-allows : goal.returns-then-point-le0-clause-allows
-returns-then-point-le0-clause-allows c end some =
+pub returns-after-self-clause-allows : goal.returns-after-self-clause-allows
+returns-after-self-clause-allows c end some =
     let step_fits : FitsSigned w64 c.args.point.step = omega (arith, ints) in
-    let same = simp to_z-of_z at c.is_same.ensures in
-    side_behind c.args.self c.both.result c.args.point end (omega (arith, ints)) some
-    (λ holds. ((c.both.ensures.0 holds).0, same.0 (c.both.ensures.0 holds).1), λ parts. c.both.ensures.1 (parts.0, same.1 parts.1))
+    let same = tests_same c.args.point.step (pos 0) step_fits (omega (arith, ints)) in
+    let both : IsTrue c.if-self.result ↔ (IsTrue c.args.self.level_behind × (c.args.point.step ≡ pos 0)) = elim c.if-self.branch [
+      | then-self w ↦ (λ holds. (w.if-self.true, same.0 (sym w.result-is ∙ holds)), λ parts. w.result-is ∙ same.1 parts.1)
+      | else-self w ↦ (λ holds. absurd cc, λ parts. let level : IsTrue c.args.self.level_behind = parts.0 in absurd cc)
+    ] in
+    side_behind c.args.self c.if-self.result c.args.point end (omega (arith, ints)) some both
 
 pub returns-else-point-le0-clause-allows : goal.returns-else-point-le0-clause-allows
 returns-else-point-le0-clause-allows c end some =
