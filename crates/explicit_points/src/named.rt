@@ -5,7 +5,7 @@ ghost use Rattle.variation_rules.specs.PackedPoints.{RisesWithin};
 ghost use Rattle.explicit_points.specs.ExplicitPoints.{IsGlyph, IsOutline, AreExplicit, AreLeastSets, is_still, moving_from};
 
 use fixpoint::Pair;
-use iup_optimal::least;
+use iup_optimal::least_points;
 use outside::{NoMemory, Seq};
 use std::alloc::Global;
 
@@ -48,8 +48,8 @@ fn least_sets(
     for length in lengths {
         let (own, after) = points.split_at(usize::from(*length));
         let (moves, moves_after) = deltas.split_at(usize::from(*length));
-        let least = least(alloc, own, moves)?;
-        push_contour(&mut named, start, least.points.as_slice())?;
+        let set = least_points(alloc, own, moves)?;
+        push_contour(&mut named, start, set.as_slice())?;
         start += usize::from(*length);
         points = after;
         deltas = moves_after;

@@ -7,3 +7,5 @@ pub mod RowLemmas
 pub mod StartLemmas
 pub mod WayLemmas
 pub mod LeastLemmas
+pub mod RoundLemmas
+pub mod PairLemmas

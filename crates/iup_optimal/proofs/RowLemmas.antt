@@ -169,6 +169,10 @@ row_least points deltas s row same via = record {
       b k inside path;
 }
 
+-- and no greater than the places' own
+pub row_small : (points deltas : List Pair) (s : ℕ) (row : List ℕ) (a : ℕ) → 0 < length points → IsLeastRow points deltas s row → a ≤ length points → get_or row a 0 ≤ a
+row_small points deltas s row a some least inside = least.least a a inside (by_ones points deltas s a some)
+
 -- A number so far of steps from one more place to the end: so many lead there, and no fewer by a step to a place before low.
 pub record FewestBack (E : ℕ → ℕ → Type 0) (from end : ℕ) (row : List ℕ) (low k : ℕ) : Type 0 where
   pub leads : Path E from end k

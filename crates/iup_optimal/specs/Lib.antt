@@ -5,4 +5,6 @@ pub mod Views
 pub mod Steps
 pub mod Rows
 pub mod Ways
+pub mod Rounds
+pub mod Pairs
 pub mod LeastSets

@@ -32,8 +32,3 @@ pub record AreRowsTo (points deltas : List Pair) (p s : ℕ) (rows : List Row) :
   pub rising : RisesFrom 0 s (starts_of rows)
   pub starts : (x : ℕ) → x < s → (Any (λ row. row.start ≡ x) rows ↔ IsStartPoint points deltas p x)
   pub least : All (λ row. IsLeastRow points deltas row.start row.bounds) rows
-
--- the least number at the end of the rows
-pub record IsLeastLast (n : ℕ) (rows : List Row) (m : ℕ) : Type 0 where
-  pub at_most : All (λ row. m ≤ slice_index row.bounds n) rows
-  pub reached : Any (λ row. slice_index row.bounds n ≡ m) rows

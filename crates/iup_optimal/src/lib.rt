@@ -9,6 +9,8 @@
 
 mod answer;
 mod bits;
+mod pairs;
+mod rounds;
 mod row;
 mod search;
 mod side;
@@ -22,4 +24,4 @@ mod way;
 
 pub use answer::Least;
 pub use row::Row;
-pub use search::least;
+pub use search::{least, least_points};
