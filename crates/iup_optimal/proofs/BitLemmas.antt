@@ -1,12 +1,12 @@
 -- Sets of numbers as bits of words.
-use Rattle.std.proofs.Common.{◌≡◌, ◌↔◌, ℕ, ◌+◌, ◌-◌, ◌*◌, ◌/◌, ◌%◌, ◌^◌, ◌<◌, ◌≤◌, ◌⊎◌, Option, Some, None, List, length, get_or, eqb, true, IsTrue, sym, ◌∙◌, ap, subst, inl, inr, ⊎_elim, arith, eq-eqb, eqb-true, w64}
+use Rattle.std.proofs.Common.{◌≡◌, ◌↔◌, ℕ, ◌+◌, ◌-◌, ◌*◌, ◌/◌, ◌%◌, ◌^◌, ◌<◌, ◌≤◌, ◌⊎◌, List, get_or, eqb, IsTrue, sym, ◌∙◌, ap, subst, inl, inr, ⊎_elim, arith, eq-eqb, eqb-true, w64}
 use Rattle.std.proofs.lemmas.Bool.{cases_eq, cases_lt}
 use Rattle.std.proofs.Math.Nat.{div-le_self}
 use Rattle.std.proofs.lemmas.Nat.{shr-shr}
 use Rattle.std.proofs.lemmas.Nat.Bits.{bit_at_or, bit_at-zero, bit_at_above, shr_and_one, bit_at-pow_same, bit_at-pow_other, bit_at-trailing_zeros, bit_at-lt}
 use Rattle.std.specs.Int.{bit_at, trailing_zeros}
 use Rattle.std.specs.Prelude.{bit_and, bit_or}
-use Rattle.iup_optimal.specs.BitSets.{Has, IsLeastFrom}
+use Rattle.iup_optimal.specs.BitSets.{Has}
 
 -- the test of a bit
 pub has_tests : (words : List ℕ) (m : ℕ) → IsTrue (eqb (bit_and (get_or words (m / 64) 0 / 2 ^ (m % 64)) 1) 1) ↔ Has words m

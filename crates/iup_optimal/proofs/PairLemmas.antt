@@ -1,11 +1,11 @@
 -- Sets of one point, and of two.
-use Rattle.std.proofs.Common.{◌≡◌, ℕ, ℤ, pos, zero, suc, ◌+◌, ◌-◌, ◌%◌, ◌<◌, ◌≤◌, ◌⊎◌, ◌-ℤ◌, ◌*ℤ◌, ◌+ℤ◌, ◌<ℤ◌, ◌≤ℤ◌, All, List, [], ◌∷◌, length, get_or, inl, inr, refl, sym, ◌∙◌, ap, subst, ⊎_elim, arith}
+use Rattle.std.proofs.Common.{◌≡◌, ℕ, ℤ, pos, zero, suc, ◌+◌, ◌%◌, ◌<◌, ◌≤◌, ◌⊎◌, ◌-ℤ◌, ◌*ℤ◌, ◌+ℤ◌, ◌<ℤ◌, ◌≤ℤ◌, All, List, [], ◌∷◌, length, get_or, inl, inr, refl, sym, ◌∙◌, ap, subst, ⊎_elim, arith}
 use Rattle.std.proofs.Math.IntN.{*ℤ-zero}
 use Rattle.std.proofs.Math.Nat.{add-mod_right}
 use Rattle.std.proofs.lemmas.Bool.{cases_lt, cases_eq}
 use Rattle.std.proofs.lemmas.Int.{ints, by_lt_z}
 use Rattle.fixpoint.specs.declared.plane.Pair.{Pair}
-use Rattle.variation_rules.specs.InferredDelta.{Between, OnLine, Inferred, around, still}
+use Rattle.variation_rules.specs.InferredDelta.{Between, OnLine, around, still}
 use Rattle.variation_rules.proofs.InferredLemmas.{between_turned, between_agree, between_below, between_above, between_inside}
 use Rattle.iup.specs.Arcs.{Spans, RisesFrom, Infers, IsFirstOf, IsLeastSet}
 use Rattle.iup.specs.Bounds.{Path, Reaches}
@@ -101,6 +101,7 @@ least_one points deltas moves some spans = record {
     fewest_of : (other : List ℕ) → Infers points deltas other → 1 ≤ length other
     fewest_of [] infers = absurd (moves infers)
     fewest_of (x ∷ xs) infers = omega arith
+
     first_of : (other : List ℕ) → length other ≡ 1 → IsFirstOf (0 ∷ []) other
     first_of [] equal = absurd (omega arith)
     first_of (zero ∷ xs) equal = inr (refl, tt)
@@ -132,6 +133,7 @@ least_two points deltas w v same moves none found =
     fewest_of [] set infers = absurd (moves infers)
     fewest_of (x ∷ []) set infers = absurd (none_alone points deltas x same set.1 none infers)
     fewest_of (x ∷ y ∷ ys) set infers = omega arith
+
     first_of : (other : List ℕ) → RisesFrom 0 (length points) other → Infers points deltas other → length other ≡ 2 → IsFirstOf (w ∷ v ∷ []) other
     first_of [] set infers equal = absurd (omega arith)
     first_of (x ∷ []) set infers equal = absurd (omega arith)

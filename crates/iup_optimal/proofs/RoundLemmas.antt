@@ -1,10 +1,10 @@
 -- The shortest ways round, from the starts of a pivot.
-use Rattle.std.proofs.Common.{◌≡◌, ℕ, suc, ◌+◌, ◌-◌, ◌%◌, ◌<◌, ◌≤◌, ◌⊎◌, List, length, get_or, inl, inr, refl, sym, ◌∙◌, ap, subst, ⊎_elim, arith}
+use Rattle.std.proofs.Common.{◌≡◌, ℕ, suc, ◌+◌, ◌-◌, ◌%◌, ◌<◌, ◌≤◌, ◌⊎◌, List, length, get_or, inl, inr, refl, sym, ◌∙◌, subst, ⊎_elim, arith}
 use Rattle.std.proofs.Math.Nat.{add-mod_right, mod-eq_of_lt}
 use Rattle.std.proofs.lemmas.Bool.{cases_lt, cases_eq}
 use Rattle.fixpoint.specs.declared.plane.Pair.{Pair}
 use Rattle.iup.specs.Bounds.{Path, IsCyclic, Reaches, IsLeastRow, IsStartPoint}
-use Rattle.iup.proofs.Paths.{Meets, path_meets, path_join, path_up, path_down, path_at, path_ahead}
+use Rattle.iup.proofs.Paths.{path_meets, path_join, path_up, path_down, path_ahead}
 use Rattle.iup.proofs.Starts.{IsStart, closed_least}
 use Rattle.iup.proofs.ArcLemmas.{reaches_cyclic, start_point}
 use Rattle.iup_optimal.specs.declared.rounds.Rounds.{Rounds}

@@ -7,10 +7,9 @@ use Rattle.std.proofs.lemmas.List.Elements.{All-push}
 use Rattle.std.proofs.lemmas.List.Quantifiers.{Any-push}
 use Rattle.fixpoint.specs.declared.plane.Pair.{Pair}
 use Rattle.iup.specs.Arcs.{RisesFrom}
-use Rattle.iup.specs.Bounds.{Path, Reaches, IsLeastRow, IsRightRow, IsStartPoint, Bounds}
-use Rattle.iup.proofs.ArcLemmas.{spans_to, reaches_cyclic, start_point}
+use Rattle.iup.specs.Bounds.{Reaches, IsLeastRow, IsRightRow, IsStartPoint, Bounds}
+use Rattle.iup.proofs.ArcLemmas.{spans_to}
 use Rattle.iup.proofs.SetLemmas.{rises_push, rises_below}
-use Rattle.iup.proofs.Starts.{closed_least}
 use Rattle.iup_optimal.specs.declared.row.Row.{Row}
 use Rattle.iup_optimal.specs.Rows.{AreRowsTo, starts_of}
 use Rattle.iup_optimal.specs.Ways.{IsFewest}

@@ -1,5 +1,5 @@
 -- What is seen from the first point of an arc, point by point.
-use Rattle.std.proofs.Common.{◌≡◌, ℕ, ◌+◌, ◌%◌, ◌<◌, ◌≤◌, ◌⊎◌, ◌↔◌, All, Bool, IsTrue, List, length, ◌∙◌, subst, ⊎_elim, arith}
+use Rattle.std.proofs.Common.{◌≡◌, ℕ, ◌+◌, ◌%◌, ◌<◌, ◌≤◌, ◌↔◌, All, Bool, IsTrue, List, length, ◌∙◌, subst, ⊎_elim, arith}
 use Rattle.std.proofs.lemmas.Bool.{cases_lt}
 use Rattle.fixpoint.specs.declared.plane.Pair.{Pair}
 use Rattle.iup.specs.Arcs.{IsContour, Spans}

@@ -1,5 +1,5 @@
 -- Sets of numbers as bits of words of 64.
-use Rattle.std.specs.Prelude.{◌≡◌, ℕ, ◌+◌, ◌/◌, ◌%◌, ◌<◌, ◌≤◌, List, Option, slice_index_or}
+use Rattle.std.specs.Prelude.{◌≡◌, ℕ, ◌/◌, ◌%◌, ◌<◌, ◌≤◌, List, Option, slice_index_or}
 use Rattle.std.specs.Option.{MatchOption}
 use Rattle.std.specs.Int.{bit_at}
 

@@ -1,5 +1,5 @@
 -- A table of the arcs of a contour: for each point, whether the arc of one point, of two and so on holds.
-use Rattle.std.specs.Prelude.{◌≡◌, ℕ, ◌+◌, ◌/◌, ◌%◌, ◌<◌, ◌≤◌, ◌↔◌, List, Option, length}
+use Rattle.std.specs.Prelude.{ℕ, ◌+◌, ◌/◌, ◌%◌, ◌<◌, ◌≤◌, ◌↔◌, List, Option, length}
 use Rattle.std.specs.Option.{MatchOption}
 use Rattle.fixpoint.specs.declared.plane.Pair.{Pair}
 use Rattle.iup.specs.Arcs.{Arc}

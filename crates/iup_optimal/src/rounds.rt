@@ -19,11 +19,7 @@ pub struct Rounds {
 
 /// The shortest ways round the contour. Each of them begins at the pivot, or passes over it by an arc from
 /// some start, so those of the starts are all that is looked at.
-pub fn shortest_rounds(
-    alloc: Global,
-    table: &Table<'_>,
-    pivot: usize,
-) -> Result<Rounds, NoMemory>
+pub fn shortest_rounds(alloc: Global, table: &Table<'_>, pivot: usize) -> Result<Rounds, NoMemory>
     requires { pivot < count table.now }
     ensures { IfOk result (AreBest (Steps table.now) (count table.now)) }
 {

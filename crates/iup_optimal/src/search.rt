@@ -47,11 +47,7 @@ pub fn least(alloc: Global, points: &[Pair], deltas: &[Pair]) -> Result<Least, N
 
 /// The points of [`least`] alone. No row is made but those that the set needs: none for a set of one point
 /// or two, and for a contour that has a point over which no arc passes three.
-pub fn least_points(
-    alloc: Global,
-    points: &[Pair],
-    deltas: &[Pair],
-) -> Result<Seq<u32>, NoMemory>
+pub fn least_points(alloc: Global, points: &[Pair], deltas: &[Pair]) -> Result<Seq<u32>, NoMemory>
     requires { IsContour points.now deltas.now }
     ensures { IfOk result (IsLeastSet points.now deltas.now) }
 {

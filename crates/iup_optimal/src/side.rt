@@ -1,3 +1,32 @@
+//! What the points seen after the first reference of an arc leave open for the second one, on one side of
+//! the first, in one coordinate.
+//!
+//! A point is told by its way from the first reference and by its step, how much more it moves. Where `E`
+//! is the second reference, each point between the two in the contour has to be inferred from them:
+//!
+//! ```text
+//!   step
+//!    |                         E . . . . . .   at E and beyond: the step of E
+//!    |                    , '
+//!    |              N , '                      before E: on the line to E
+//!    |         , '
+//!    |    , '
+//!  --0-------------------------------------> way
+//!    behind: the step 0
+//! ```
+//!
+//! So two pairs of numbers tell which ends are left, however many points were seen:
+//!
+//! - The points before `E` lie on one line through the first reference. The nearest point `N` of all fixes
+//!   that line, and the least way of a point off it, `off`, bounds `E`: `E` lies at or before `N`, or on the
+//!   line of `N` and not beyond `off`.
+//! - The points at `E` and beyond have one step. The farthest point `F` of all fixes it, and the greatest
+//!   way of a point with another step, `torn`, bounds `E` from the other end: `E` lies beyond `F`, or has
+//!   the step of `F` and lies beyond `torn`.
+//!
+//! One more point takes the place of `N` or `F`, or lowers `off` or raises `torn`, or says nothing new. Where
+//! `off` is no greater than `torn` no end is left, and none ever will be.
+
 ghost use Rattle.std.specs.Prelude.{◌≡◌, ℤ, pos, ◌<ℤ◌, ◌≤ℤ◌, ◌-ℤ◌, ◌*ℤ◌, ◌↔◌, IsTrue};
 ghost use Rattle.variation_rules.specs.FontUnits.{IsReference};
 ghost use Rattle.iup_optimal.specs.Sides.{Collinear, IsSpan, IsRelative, Follows, IsNearest, AllowsNear, IsFarthest, AllowsFar, IsSide, Allows, turned};
@@ -33,7 +62,7 @@ pub struct Farthest {
 }
 
 /// What the points seen so far leave open for the second reference of an arc, on the side of positive
-/// ways. One more point is taken in, and an end is tested, in a few steps, however many were seen.
+/// ways. One more point is taken in, and an end is tested, in a few steps.
 #[derive(Clone, Copy)]
 pub struct Side {
     level_behind: bool,

@@ -1,3 +1,13 @@
+//! What the points seen after the first reference of an arc leave open for the second one, in one
+//! coordinate: on the side of greater coordinates and on that of smaller ones, which mirror one another,
+//! and at the first reference's own coordinate, where all points move as it does, or none moves.
+//!
+//! ```text
+//!      below (turned)            above
+//!   <------------------- first ------------------->  coordinate
+//!                    level, still
+//! ```
+
 ghost use Rattle.std.specs.Prelude.{◌≡◌, ℤ, ◌↔◌, IsTrue};
 ghost use Rattle.variation_rules.specs.FontUnits.{IsReference};
 ghost use Rattle.iup_optimal.specs.Sides.{IsSight, Admits, BetweenThem};

@@ -2,7 +2,7 @@ ghost use Rattle.std.specs.Prelude.{◌≡◌, ℕ, ◌<◌, ◌≤◌, All, IfO
 ghost use Rattle.variation_rules.specs.FontUnits.{AreFWords};
 ghost use Rattle.iup.specs.Arcs.{IsContour, RisesFrom};
 
-use crate::{Least, least};
+use crate::{Least, least, least_points};
 use fixpoint::Pair;
 use iup::infers;
 use outside::NoMemory;
@@ -194,7 +194,7 @@ fn least_of_all(alloc: Global, points: &[Pair], deltas: &[Pair]) -> Result<Vec<u
     Ok(best)
 }
 
-// Whether the search agrees on a contour of so many points, whose coordinates and deltas are the digits
+// Whether both searches agree on a contour of so many points, whose coordinates and deltas are the digits
 // of a number: 0, 1 or 2 each.
 fn agrees(alloc: Global, count: usize, code: u32) -> Result<bool, NoMemory> {
     let mut moved = Vec::new(alloc);
@@ -210,8 +210,9 @@ fn agrees(alloc: Global, count: usize, code: u32) -> Result<bool, NoMemory> {
     }
     let (points, deltas) = contour(alloc, &moved)?;
     let found = least(alloc, &points, &deltas)?;
+    let alone = least_points(alloc, &points, &deltas)?;
     let wanted = least_of_all(alloc, &points, &deltas)?;
-    Ok(found.points.as_slice() == wanted.as_slice())
+    Ok(found.points.as_slice() == wanted.as_slice() && alone.as_slice() == wanted.as_slice())
 }
 
 // The first contour on which it doesn't.
@@ -222,6 +223,7 @@ fn first_wrong(alloc: Global) -> Result<Option<(usize, u32)>, NoMemory> {
         (3, 1, 729),
         (4, 7, 6561),
         (6, 997, 531_441),
+        (9, 3_874_204, 387_420_489),
     ] {
         for number in 0..1000 {
             let code = number * step;

@@ -1,7 +1,6 @@
-use Rattle.std.proofs.Common.{◌≡◌, ◌+◌, ◌<◌, ◌≤◌, ◌↔◌, IsTrue, ℕ, length, subst, ⊎_elim, arith}
+use Rattle.std.proofs.Common.{◌≡◌, ◌+◌, ◌<◌, ◌≤◌, length, subst, ⊎_elim, arith}
 use Rattle.std.proofs.lemmas.Bool.{cases_lt}
 use Rattle.iup.specs.Bounds.{Reaches}
-use Rattle.iup_optimal.specs.Pairs.{IsPair}
 use Rattle.iup_optimal.specs.Tables.{IsNearestEnd}
 use Rattle.iup_optimal.proofs.pairs.pair_of.Goals as goal
 

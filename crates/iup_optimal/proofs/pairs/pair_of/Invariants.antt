@@ -1,4 +1,4 @@
-use Rattle.std.proofs.Common.{ℕ, ◌+◌, ◌-◌, ◌<◌, ◌≤◌}
+use Rattle.std.proofs.Common.{ℕ, ◌-◌, ◌<◌, ◌≤◌}
 use Rattle.iup_optimal.specs.Steps.{Steps, count}
 use Rattle.iup_optimal.specs.Pairs.{IsPair}
 use Rattle.iup_optimal.proofs.pairs.pair_of.Given as goal

@@ -1,9 +1,7 @@
-use Rattle.std.proofs.Common.{◌≡◌, ◌+◌, ◌-◌, ◌<◌, ◌≤◌, ◌↔◌, IsTrue, ℕ, length, subst, ⊎_elim, arith}
+use Rattle.std.proofs.Common.{◌≡◌, ◌+◌, ◌-◌, ◌<◌, ◌≤◌, length, subst, ⊎_elim, arith}
 use Rattle.std.proofs.lemmas.Bool.{cases_lt}
 use Rattle.iup.specs.Arcs.{Spans}
-use Rattle.iup.specs.Bounds.{Reaches}
 use Rattle.iup.proofs.ArcLemmas.{spans_to}
-use Rattle.iup_optimal.specs.Pairs.{IsPair}
 use Rattle.iup_optimal.proofs.ViewLemmas.{view_closed}
 use Rattle.iup_optimal.proofs.pairs.pair_of_zero.Goals as goal
 use Rattle.iup_optimal.proofs.pairs.pair_of_zero.Goals.{else-pass-via-then-pass+else-arc_holds, else-pass-via-else-pass}

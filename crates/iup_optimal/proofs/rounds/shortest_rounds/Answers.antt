@@ -1,5 +1,4 @@
-use Rattle.std.proofs.Common.{◌≡◌, ◌+◌, ◌⊎◌, ℕ, inl, inr, sym, subst, arith}
-use Rattle.iup.specs.Bounds.{Reaches}
+use Rattle.std.proofs.Common.{◌+◌, inl, inr, sym, subst, arith}
 use Rattle.iup_optimal.specs.declared.rounds.Rounds.{Rounds}
 use Rattle.iup_optimal.specs.Rounds.{AreBestTo}
 use Rattle.iup_optimal.proofs.RoundLemmas.{best_push, best_skip, best_of_all}

@@ -1,4 +1,4 @@
-use Rattle.std.proofs.Common.{◌≡◌, ◌+◌, ◌-◌, ◌<◌, ◌≤◌, ℕ, length, min, subst, sym, arith}
+use Rattle.std.proofs.Common.{◌+◌, ◌-◌, ℕ, length, subst, sym, arith}
 use Rattle.iup.specs.Bounds.{Reaches}
 use Rattle.iup.proofs.ArcLemmas.{reaches_cyclic}
 use Rattle.iup_optimal.specs.Tables.{IsNearestEnd}

@@ -1,4 +1,4 @@
-use Rattle.std.proofs.Common.{◌≡◌, ◌+◌, ◌<◌, ◌≤◌, ℕ, length, subst, arith}
+use Rattle.std.proofs.Common.{◌≡◌, ℕ, length, subst, arith}
 use Rattle.iup.specs.Bounds.{Reaches}
 use Rattle.iup_optimal.specs.Rows.{IsRowVia}
 use Rattle.iup_optimal.proofs.RowLemmas.{via_start, row_least}

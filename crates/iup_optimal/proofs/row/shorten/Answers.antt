@@ -1,8 +1,6 @@
-use Rattle.std.proofs.Common.{◌≡◌, ◌+◌, ◌-◌, ◌<◌, ◌≤◌, List, ℕ, length, get_or, set, ap, sym, ◌∙◌, subst, ⊎_elim, refl, arith}
-use Rattle.std.proofs.lemmas.Bool.{cases_lt}
+use Rattle.std.proofs.Common.{◌≡◌, ◌+◌, ◌-◌, ◌<◌, ◌≤◌, List, ℕ, length, get_or, set, ap, sym, ◌∙◌, subst, arith}
 use Rattle.std.proofs.lemmas.List.{get_or-set_other}
 use Rattle.iup.specs.Bounds.{Reaches}
-use Rattle.iup_optimal.specs.Rows.{IsRowVia}
 use Rattle.iup_optimal.specs.Tables.{IsNearestEnd}
 use Rattle.iup_optimal.proofs.RowLemmas.{Shortened, shortened_kept, shortened_set, shortened_all}
 use Rattle.iup_optimal.proofs.row.shorten.Goals as goal
@@ -55,13 +53,17 @@ returns-then-row-to c =
     let s = c.args.start in
     let found : IsNearestEnd points deltas (s + c.args.from) (s + c.loop-end.low) c.in-Some.end = c.in-Some.ensures in
     let size : length c.loop-end.row ≡ length points + 1 = c.loop-end.invariant.shortened.via.size in
-    record { row = shortened_all (Reaches points deltas) s (length points) c.args.from c.loop-end.low c.loop-end.row c.loop-end.invariant.shortened
-        (λ z low inside. found.nearest (s + z) (omega arith) (omega arith)) }
+    record {
+      row = shortened_all (Reaches points deltas) s (length points) c.args.from c.loop-end.low c.loop-end.row c.loop-end.invariant.shortened
+          (λ z low inside. found.nearest (s + z) (omega arith) (omega arith));
+    }
 
 pub returns : goal.returns
 returns c =
     let points = c.args.table.now.points.now in
     let deltas = c.args.table.now.deltas.now in
     let s = c.args.start in
-    record { row = shortened_all (Reaches points deltas) s (length points) c.args.from c.loop-end.low c.loop-end.row c.loop-end.invariant.shortened
-        (λ z low inside step. c.in_default.ensures (s + z) (omega arith) step) }
+    record {
+      row = shortened_all (Reaches points deltas) s (length points) c.args.from c.loop-end.low c.loop-end.row c.loop-end.invariant.shortened
+          (λ z low inside step. c.in_default.ensures (s + z) (omega arith) step);
+    }

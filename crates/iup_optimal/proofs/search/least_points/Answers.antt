@@ -1,10 +1,8 @@
-use Rattle.std.proofs.Common.{◌≡◌, ◌+◌, ◌<◌, ◌≤◌, ◌⊎◌, ◌∷◌, [], All, List, ℕ, length, inl, inr, refl, sym, ◌∙◌, subst, ⊎_elim, arith}
-use Rattle.std.proofs.lemmas.Bool.{cases_lt}
+use Rattle.std.proofs.Common.{◌≡◌, ◌+◌, All, List, ℕ, length, sym, ◌∙◌, subst}
 use Rattle.fixpoint.specs.declared.plane.Pair.{Pair}
 use Rattle.variation_rules.specs.InferredDelta.{still}
 use Rattle.iup.specs.Arcs.{IsLeastSet}
 use Rattle.iup.specs.Bounds.{Reaches}
-use Rattle.iup.proofs.ArcLemmas.{spans_to}
 use Rattle.iup_optimal.specs.Pairs.{IsNearestPair}
 use Rattle.iup_optimal.proofs.PairLemmas.{least_two, first_from_nearest}
 use Rattle.iup_optimal.proofs.search.least_points.Goals as goal

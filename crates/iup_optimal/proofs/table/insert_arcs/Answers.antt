@@ -1,6 +1,5 @@
-use Rattle.std.proofs.Common.{◌≡◌, ◌+◌, ◌-◌, ◌*◌, ◌<◌, ◌≤◌, ◌↔◌, ◌⊎◌, IsTrue, List, ℕ, length, refl, sym, ◌∙◌, ap, subst, arith}
+use Rattle.std.proofs.Common.{◌≡◌, ◌+◌, ◌-◌, ◌*◌, ◌<◌, ◌↔◌, IsTrue, List, ℕ, length, refl, sym, ◌∙◌, ap, subst, arith}
 use Rattle.iup.specs.Arcs.{Spans}
-use Rattle.iup_optimal.specs.BitSets.{Has}
 use Rattle.iup_optimal.specs.Tables.{TellsArcs}
 use Rattle.iup_optimal.proofs.TableLemmas.{tells_insert, tells_skip, tells_rest, entry_is}
 use Rattle.iup_optimal.proofs.ViewLemmas.{view_closed}

@@ -1,4 +1,4 @@
-use Rattle.std.proofs.Common.{◌≡◌, ◌/◌, ◌%◌, ◌^◌, ◌↔◌, IsTrue, ℕ, get_or, subst, sym, eqb, arith}
+use Rattle.std.proofs.Common.{◌/◌, ◌%◌, ◌^◌, ◌↔◌, IsTrue, ℕ, subst, sym, eqb, arith}
 use Rattle.std.proofs.lemmas.List.{get_or_read}
 use Rattle.std.specs.Prelude.{bit_and}
 use Rattle.iup_optimal.specs.BitSets.{Has}

@@ -1,8 +1,7 @@
-use Rattle.std.proofs.Common.{◌≡◌, ℕ, ◌+◌, ◌*◌, ◌/◌, ◌%◌, ◌^◌, ◌<◌, ◌≤◌, List, get_or, refl, sym, ap, ◌∙◌, subst, ⊎_elim, arith, rules, w64}
+use Rattle.std.proofs.Common.{◌≡◌, ℕ, ◌/◌, ◌%◌, ◌^◌, ◌<◌, ◌≤◌, get_or, sym, ap, ◌∙◌, ⊎_elim, arith, rules, w64}
 use Rattle.std.proofs.lemmas.Bool.{cases_lt}
 use Rattle.std.proofs.lemmas.List.{get_or_read}
 use Rattle.std.specs.Int.{trailing_zeros}
-use Rattle.iup_optimal.specs.BitSets.{Has, IsLeastFrom}
 use Rattle.iup_optimal.proofs.BitLemmas.{none_left, Lowest, lowest_left}
 use Rattle.iup_optimal.proofs.bits.Bits.next.Goals as goal
 use Rattle.iup_optimal.proofs.bits.Bits.next.Goals.{Then-left-ne0}

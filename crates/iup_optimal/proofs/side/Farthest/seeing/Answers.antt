@@ -1,4 +1,4 @@
-use Rattle.std.proofs.Common.{◌≡◌, FitsSigned, to_z-of_z, of_z, ap, arith, rules}
+use Rattle.std.proofs.Common.{FitsSigned, to_z-of_z, of_z, ap, arith, rules}
 use Rattle.std.proofs.lemmas.Int.{ints}
 use Rattle.std.specs.Int.{w64}
 use Rattle.iup_optimal.proofs.SideLemmas.{same_number, beyond_same, beyond_other, within_other}

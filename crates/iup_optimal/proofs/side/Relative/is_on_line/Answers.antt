@@ -1,4 +1,4 @@
-use Rattle.std.proofs.Common.{◌≡◌, ◌*ℤ◌, FitsSigned, to_z-of_z, arith, rules}
+use Rattle.std.proofs.Common.{◌*ℤ◌, FitsSigned, to_z-of_z, arith, rules}
 use Rattle.std.proofs.lemmas.Int.{ints}
 use Rattle.std.specs.Int.{w64}
 use Rattle.iup_optimal.proofs.SideLemmas.{tests_same}

@@ -1,4 +1,4 @@
-use Rattle.std.proofs.Common.{◌≡◌, ◌↔◌, IsTrue, pos, of_z, ap, subst, arith}
+use Rattle.std.proofs.Common.{◌↔◌, IsTrue, pos, of_z, ap, subst, arith}
 use Rattle.std.proofs.lemmas.Int.{ints}
 use Rattle.std.specs.Int.{w64}
 use Rattle.iup_optimal.specs.declared.side.Relative.{Relative}

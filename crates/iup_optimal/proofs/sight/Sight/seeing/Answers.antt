@@ -1,6 +1,5 @@
 use Rattle.std.proofs.Common.{◌≡◌, ◌↔◌, IsTrue, pos, ◌<ℤ◌, sym, ◌∙◌, subst, arith}
 use Rattle.std.proofs.lemmas.Int.{ints}
-use Rattle.std.specs.Int.{w64}
 use Rattle.iup_optimal.specs.declared.side.Relative.{Relative}
 use Rattle.iup_optimal.specs.declared.sight.Sight.{Sight}
 use Rattle.iup_optimal.specs.Sides.{FollowsAt, AllowsAt, Allows, Follows, relative_of, turned}

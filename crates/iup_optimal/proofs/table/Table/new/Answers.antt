@@ -1,4 +1,4 @@
-use Rattle.std.proofs.Common.{◌≡◌, ◌*◌, ◌≤◌, length, ℕ, subst, arith}
+use Rattle.std.proofs.Common.{◌≡◌, ◌*◌, length, ℕ, subst, arith}
 use Rattle.iup_optimal.specs.Tables.{TellsArcs}
 use Rattle.iup_optimal.proofs.table.Table.new.Goals as goal
 

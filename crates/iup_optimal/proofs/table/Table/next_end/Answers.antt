@@ -1,4 +1,4 @@
-use Rattle.std.proofs.Common.{◌≡◌, ◌+◌, ◌-◌, ◌*◌, ◌%◌, ◌<◌, ◌≤◌, ◌↔◌, length, ℕ, sym, subst, arith}
+use Rattle.std.proofs.Common.{◌≡◌, ◌+◌, ◌-◌, ◌<◌, ◌≤◌, ◌↔◌, length, ℕ, sym, subst, arith}
 use Rattle.iup.specs.Bounds.{Reaches}
 use Rattle.iup_optimal.specs.BitSets.{Has, IsLeastFrom}
 use Rattle.iup_optimal.proofs.TableLemmas.{entry_tells}

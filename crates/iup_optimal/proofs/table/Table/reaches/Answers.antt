@@ -1,4 +1,4 @@
-use Rattle.std.proofs.Common.{◌≡◌, ◌+◌, ◌-◌, ◌*◌, ◌%◌, ◌↔◌, IsTrue, length, ℕ, subst}
+use Rattle.std.proofs.Common.{◌+◌, ◌-◌, ◌↔◌, IsTrue, ℕ, subst}
 use Rattle.iup_optimal.specs.BitSets.{Has}
 use Rattle.iup_optimal.proofs.TableLemmas.{entry_tells}
 use Rattle.iup_optimal.proofs.table.Table.reaches.Goals as goal

@@ -1,4 +1,4 @@
-use Rattle.std.proofs.Common.{◌≡◌, ◌↔◌, IsTrue, subst, sym, ◌∙◌}
+use Rattle.std.proofs.Common.{◌↔◌, IsTrue, subst, sym, ◌∙◌}
 use Rattle.variation_rules.specs.declared.inferred.Reference.{Reference}
 use Rattle.variation_rules.specs.FontUnits.{IsReference}
 use Rattle.iup_optimal.specs.Sides.{Admits, BetweenThem, x_of, y_of}
