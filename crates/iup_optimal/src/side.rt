@@ -221,32 +221,26 @@ impl Side {
     }
 
     /// One more point is seen.
-    pub fn seeing(self, point: Relative) -> Side
-        requires side { IsSide self }
+    pub fn see(&mut self, point: Relative)
+        requires side { IsSide self.old }
         requires point { IsRelative point }
-        ensures side { IsSide result }
-        ensures allows { (end : Relative) → pos 0 <ℤ end.way → (Allows result end ↔ (Allows self end × Follows end point)) }
+        ensures side { IsSide self.new }
+        ensures allows { (end : Relative) → pos 0 <ℤ end.way → (Allows self.new end ↔ (Allows self.old end × Follows end point)) }
     {
         if point.way <= 0 {
-            Side {
-                level_behind: self.level_behind && point.step == 0,
-                nearest: self.nearest,
-                farthest: self.farthest,
-            }
+            let level_behind = self.level_behind && point.step == 0;
+            self.level_behind = level_behind;
         } else {
-            Side {
-                level_behind: self.level_behind,
-                nearest: self.nearest.seeing(point),
-                farthest: self.farthest.seeing(point),
-            }
+            self.nearest = self.nearest.seeing(point);
+            self.farthest = self.farthest.seeing(point);
         }
     }
 
     /// Whether all points seen follow from the first reference and this second one.
-    pub fn allows(self, end: Relative) -> bool
-        requires side { IsSide self }
+    pub fn allows(&self, end: Relative) -> bool
+        requires side { IsSide self.now }
         requires end { IsRelative end }
-        ensures { IsTrue result ↔ Allows self end }
+        ensures { IsTrue result ↔ Allows self.now end }
     {
         self.level_behind && self.nearest.allows(end) && self.farthest.allows(end)
     }

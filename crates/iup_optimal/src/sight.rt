@@ -47,28 +47,27 @@ impl Sight {
     }
 
     /// One more point is seen.
-    pub fn seeing(self, point: Reference) -> Sight
-        requires sight { IsSight self }
+    pub fn see(&mut self, point: Reference)
+        requires sight { IsSight self.old }
         requires point { IsReference point }
-        ensures sight { IsSight result }
-        ensures first { result.first ≡ self.first }
-        ensures admits { (end : Reference) → (Admits result end ↔ (Admits self end × BetweenThem self.first end point)) }
+        ensures sight { IsSight self.new }
+        ensures first { self.new.first ≡ self.old.first }
+        ensures admits { (end : Reference) → (Admits self.new end ↔ (Admits self.old end × BetweenThem self.old.first end point)) }
     {
         let relative = Relative::between(self.first, point);
-        Sight {
-            first: self.first,
-            level: self.level && relative.step == 0,
-            still: self.still && point.delta == 0,
-            above: self.above.seeing(relative),
-            below: self.below.seeing(relative.turned()),
-        }
+        let level = self.level && relative.step == 0;
+        let still = self.still && point.delta == 0;
+        self.level = level;
+        self.still = still;
+        self.above.see(relative);
+        self.below.see(relative.turned());
     }
 
     /// Whether all points seen are inferred from the first reference and this second one.
-    pub fn admits(self, end: Reference) -> bool
-        requires sight { IsSight self }
+    pub fn admits(&self, end: Reference) -> bool
+        requires sight { IsSight self.now }
         requires end { IsReference end }
-        ensures { IsTrue result ↔ Admits self end }
+        ensures { IsTrue result ↔ Admits self.now end }
     {
         let relative = Relative::between(self.first, end);
         if 0 < relative.way {

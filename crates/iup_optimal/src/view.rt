@@ -36,8 +36,8 @@ impl View {
         let x = horizontal(points, deltas, to);
         let y = vertical(points, deltas, to);
         let holds = self.across.admits(x) && self.upward.admits(y);
-        self.across = self.across.seeing(x);
-        self.upward = self.upward.seeing(y);
+        self.across.see(x);
+        self.upward.see(y);
         holds
     }
 

@@ -12,10 +12,10 @@ returns-clause-sees c from ahead seen =
     let deltas = c.args.deltas.now in
     let across = c.args.self.now.across in
     let upward = c.args.self.now.upward in
-    seen_push points deltas from c.args.to across upward c.seeing-self.result c.seeing-self-2.result ahead seen
-    c.seeing-self.ensures.sight c.seeing-self-2.ensures.sight c.seeing-self.ensures.first c.seeing-self-2.ensures.first
-    (λ end. subst (λ (r : Reference). Admits c.seeing-self.result end ↔ (Admits across end × BetweenThem across.first end r)) c.horizontal-x.ensures.value (c.seeing-self.ensures.admits end))
-    (λ end. subst (λ (r : Reference). Admits c.seeing-self-2.result end ↔ (Admits upward end × BetweenThem upward.first end r)) c.vertical-y.ensures.value (c.seeing-self-2.ensures.admits end))
+    seen_push points deltas from c.args.to across upward c.see.new.self c.see-2.new.self ahead seen
+    c.see.ensures.sight c.see-2.ensures.sight c.see.ensures.first c.see-2.ensures.first
+    (λ end. subst (λ (r : Reference). Admits c.see.new.self end ↔ (Admits across end × BetweenThem across.first end r)) c.horizontal-x.ensures.value (c.see.ensures.admits end))
+    (λ end. subst (λ (r : Reference). Admits c.see-2.new.self end ↔ (Admits upward end × BetweenThem upward.first end r)) c.vertical-y.ensures.value (c.see-2.ensures.admits end))
 
 pub returns-clause-holds : goal.returns-clause-holds
 returns-clause-holds c from ahead seen =
