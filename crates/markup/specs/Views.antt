@@ -1,5 +1,6 @@
 -- What the values that code holds stand for.
-use Rattle.std.specs.Prelude.{ℕ, List, encode_utf8, string_bytes}
+use Rattle.std.specs.Prelude.{ℕ, List, Option, Some, None, encode_utf8, string_bytes, if◌then◌else◌}
+use Rattle.std.specs.Str.{is_utf8}
 use Rattle.markup.specs.declared.attributes.Attribute.{Attribute}
 use Rattle.markup_rules.specs.Reading as rules
 use Rattle.markup_rules.specs.Reading.{comment, instruction, declaration, tag, broken, unended, data_between, data_to_end}
@@ -13,6 +14,10 @@ use Rattle.markup.specs.declared.text.Piece.{Piece}
 use Rattle.markup.specs.declared.text.Piece.TheVariants.{Run, Character}
 use Rattle.markup.specs.declared.text.Text.{Text}
 use Rattle.markup.specs.declared.text.Text.TheVariants.{Borrowed, Owned}
+
+-- the bytes, if they are UTF-8
+abbrev pub utf8_of : List ℕ → Option (List ℕ)
+utf8_of bytes = if is_utf8 bytes then Some bytes else None
 
 abbrev pub piece_bytes : Piece → List ℕ
 piece_bytes (Run text) = text.now

@@ -125,8 +125,8 @@ fn count_up_to_many(bytes: &[u8]) -> usize {
     bytes
         .iter()
         .filter(|byte| **byte == b'=')
-        .take(FEW + 1)
         .count()
+        .min(FEW + 1)
 }
 
 /// The names of the attributes kept so far, where there may be many.

@@ -1,7 +1,30 @@
 ghost use Rattle.std.specs.Prelude.{◌≡◌, ◌≤◌, length};
 ghost use Rattle.std.specs.List.{list_all};
 ghost use Rattle.markup_rules.specs.Bytes as rules;
+ghost use Rattle.std.specs.Char.{is_ascii};
 ghost use Rattle.markup_rules.specs.Bytes.{after_run, run_at};
+ghost use Rattle.markup_rules.specs.Reading.{Agrees};
+ghost use Rattle.markup.specs.Views.{utf8_of};
+
+// A byte that stands for itself in content.
+const PLAIN: u8 = 1;
+
+// A byte with which names begin.
+const NAME_START: u8 = 2;
+
+// A byte with which names go on.
+const NAME: u8 = 4;
+
+// For each byte a digit, whose low bits are the flags above.
+static CLASS: [u8; 256] = *b"\
+    00000000011001000000000000000000\
+    11111101111115515555555555710111\
+    17777777777777777777777777711117\
+    17777777777777777777777777711111\
+    77777777777777777777777777777777\
+    77777777777777777777777777777777\
+    77777777777777777777777777777777\
+    77777777777777777777777777777777";
 
 /// Whether the byte is a space, tab, line feed or carriage return.
 pub(crate) fn is_blank(byte: u8) -> bool
@@ -21,21 +44,21 @@ pub(crate) fn is_character(byte: u8) -> bool
 pub(crate) fn is_plain(byte: u8) -> bool
     ensures { result ≡ rules.is_plain byte }
 {
-    is_character(byte) && byte != b'<' && byte != b'&'
+    CLASS[byte as usize] & PLAIN != 0
 }
 
 /// Whether a name may begin with the byte.
 pub(crate) fn is_name_start(byte: u8) -> bool
     ensures { result ≡ rules.is_name_start byte }
 {
-    byte.is_ascii_alphabetic() || byte == b'_' || byte == b':' || byte >= 128
+    CLASS[byte as usize] & NAME_START != 0
 }
 
 /// Whether a name may go on with the byte.
 pub(crate) fn is_name_byte(byte: u8) -> bool
     ensures { result ≡ rules.is_name_byte byte }
 {
-    is_name_start(byte) || byte.is_ascii_digit() || byte == b'-' || byte == b'.'
+    CLASS[byte as usize] & NAME != 0
 }
 
 /// Whether the byte may stand in a document type behind its keyword.
@@ -43,6 +66,31 @@ fn is_doctype_byte(byte: u8) -> bool
     ensures { result ≡ rules.is_doctype_byte byte }
 {
     is_character(byte) && byte != b'<' && byte != b'>' && byte != b'['
+}
+
+/// The most bytes that are told to be ASCII one by one. More are faster in whole words.
+const SHORT: usize = 16;
+
+/// Whether each byte is ASCII.
+fn are_ascii(bytes: &[u8]) -> bool
+    ensures { result ≡ list_all is_ascii bytes.now }
+{
+    bytes.iter().all(|byte| byte.is_ascii())
+}
+
+/// The bytes as text, if they are UTF-8.
+#[tactic(auto, using(markup_rules::proofs::Utf8::utf8_true, markup_rules::proofs::Utf8::utf8_false, crate::proofs::Ascii::ascii_utf8))]
+pub(crate) fn as_text(bytes: &[u8]) -> Option<&str>
+    ensures { Agrees (λ text. text.now) result (utf8_of bytes.now) }
+{
+    if bytes.len() <= SHORT && are_ascii(bytes) {
+        // ASCII is UTF-8.
+        return Some(unsafe { str::from_utf8_unchecked(bytes) });
+    }
+    match str::from_utf8(bytes) {
+        Ok(text) => Some(text),
+        Err(_) => None,
+    }
 }
 
 /// Whether the bytes are UTF-8.
@@ -144,6 +192,13 @@ pub(crate) fn split_name(bytes: &[u8]) -> (&[u8], &[u8])
 {
     let (front, rest) = bytes.split_at(name_length(bytes));
     (front, rest)
+}
+
+/// Whether each byte stands for itself.
+pub(crate) fn are_plain(bytes: &[u8]) -> bool
+    ensures { result ≡ list_all rules.is_plain bytes.now }
+{
+    bytes.iter().all(|byte| is_plain(*byte))
 }
 
 /// How many bytes that stand for themselves are at the front.

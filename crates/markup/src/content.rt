@@ -6,7 +6,7 @@ ghost use Rattle.std.specs.Str.Parse.{digits_value};
 ghost use Rattle.markup_rules.specs.Reading.{Agrees, allowed, character_of, content_of, number_of, number_reference, numbered, piece_at, reference_at, run_of};
 ghost use Rattle.markup.specs.Views.{piece_bytes, text_bytes};
 
-use crate::bytes::split_plain;
+use crate::bytes::{are_plain, as_text, split_plain};
 use crate::searches::place_of;
 use crate::text::{Piece, Text};
 use outside::NoMemory;
@@ -168,7 +168,7 @@ fn reference_at(bytes: &[u8]) -> Option<(char, &[u8])>
 }
 
 /// The run of characters at the front, one at least, and what follows it.
-#[tactic(auto, using(markup_rules::proofs::Utf8::utf8_true, markup_rules::proofs::Utf8::utf8_false), unfolding(markup_rules::specs::Reading::run_of))]
+#[tactic(auto, unfolding(markup_rules::specs::Reading::run_of))]
 fn run_of(bytes: &[u8]) -> Option<(&str, &[u8])>
     ensures { Agrees (λ found. (found.0.now, found.1.now)) result (run_of bytes.now) }
 {
@@ -176,10 +176,8 @@ fn run_of(bytes: &[u8]) -> Option<(&str, &[u8])>
     if run.is_empty() {
         return None;
     }
-    match str::from_utf8(run) {
-        Ok(run) => Some((run, rest)),
-        Err(_) => None,
-    }
+    let run = as_text(run)?;
+    Some((run, rest))
 }
 
 /// The run or the reference at the front, and what follows it.
@@ -201,9 +199,9 @@ fn piece_at(bytes: &[u8]) -> Option<(Piece<'_>, &[u8])>
     }
 }
 
-/// What characters and references mean, or None where a part is neither.
+/// What characters and references mean, piece by piece.
 #[tactic(auto, unfolding(markup_rules::specs::Reading::content_of))]
-pub(crate) fn content_of(alloc: Global, bytes: &[u8]) -> Result<Option<Text<'_>>, NoMemory>
+fn content_by_pieces(alloc: Global, bytes: &[u8]) -> Result<Option<Text<'_>>, NoMemory>
     ensures { IfOk result (λ found. Agrees text_bytes found (content_of bytes.now)) }
 {
     let mut text = Text::new();
@@ -212,8 +210,23 @@ pub(crate) fn content_of(alloc: Global, bytes: &[u8]) -> Result<Option<Text<'_>>
         let Some((piece, after)) = piece_at(rest) else {
             return Ok(None);
         };
-        text = text.with_piece(alloc, piece)?;
+        text.push_piece(alloc, piece)?;
         rest = after;
     }
     Ok(Some(text))
+}
+
+/// What characters and references mean, or None where a part is neither. It is borrowed where no reference
+/// stands in it.
+#[tactic(auto, using(crate::proofs::PlainRuns::content_plain))]
+pub(crate) fn content_of(alloc: Global, bytes: &[u8]) -> Result<Option<Text<'_>>, NoMemory>
+    ensures { IfOk result (λ found. Agrees text_bytes found (content_of bytes.now)) }
+{
+    if are_plain(bytes) {
+        return match as_text(bytes) {
+            Some(text) => Ok(Some(Text::Borrowed(text))),
+            None => Ok(None),
+        };
+    }
+    content_by_pieces(alloc, bytes)
 }

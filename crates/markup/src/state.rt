@@ -14,7 +14,6 @@ use crate::markup::{Markup, Opening, markup_of};
 use crate::text::Text;
 use outside::{Kind, Name, NoMemory, Seq, Stop, stop_at};
 use std::alloc::Global;
-use std::mem;
 
 /// The most elements that may stand one in another.
 const DEPTH: usize = 64;
@@ -205,8 +204,7 @@ impl<'a> State<'a> {
         ensures { OnOk result (state_of self.new ≡ texted (text_bytes text.entry) (state_of self.old).frames (state_of self.old)) }
     {
         if let Some(open) = &mut self.innermost {
-            let before = mem::replace(&mut open.text, Text::new());
-            open.text = before.with_text(alloc, text)?;
+            open.text.push_text(alloc, text)?;
         }
         Ok(())
     }

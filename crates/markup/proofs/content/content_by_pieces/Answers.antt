@@ -2,7 +2,7 @@ use Rattle.std.proofs.Common.{◌≡◌, ◌∙◌, sym, ap, false, length, rule
 use Rattle.markup_rules.specs.Reading.{is_nil}
 use Rattle.markup_rules.proofs.Contents.{content_step, content_none, content_done, content_shorter, content_behind, some_left}
 use Rattle.markup.specs.Views.{piece_bytes, text_bytes}
-use Rattle.markup.proofs.content.content_of.Goals as goal
+use Rattle.markup.proofs.content.content_by_pieces.Goals as goal
 
 pub returns-in_default : goal.returns-in_default
 returns-in_default c =
@@ -15,7 +15,7 @@ loop-rest-smaller c = content_shorter c.loop-rest.rest.now (piece_bytes c.in-Som
 pub loop-rest-preserved : goal.loop-rest-preserved
 loop-rest-preserved c =
     let some : is_nil c.loop-rest.rest.now ≡ false = some_left c.loop-rest.rest.now (search rules) in
-    ap (λ text. content_behind text c.in-Some.after.now) c.in_ok-text.ensures ∙
+    ap (λ text. content_behind text c.in-Some.after.now) c.in_ok-push_piece.ensures ∙
     (content_step (text_bytes c.loop-rest.text) c.loop-rest.rest.now (piece_bytes c.in-Some.piece) c.in-Some.after.now some c.in-Some.ensures ∙ c.loop-rest.invariant)
 
 pub returns : goal.returns
