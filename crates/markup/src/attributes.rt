@@ -1,4 +1,4 @@
-ghost use Rattle.std.specs.Prelude.{◌≡◌, ◌++◌, [], ◌∷◌, map, not, IfOk, OnOk, option_map, if◌then◌else◌};
+ghost use Rattle.std.specs.Prelude.{◌≡◌, ◌++◌, [], ◌∷◌, Some, map, not, IfOk, OnOk, option_map, if◌then◌else◌};
 ghost use Rattle.std.specs.List.{list_any};
 ghost use Rattle.std.specs.Str.{bytes_eq};
 ghost use Rattle.markup_rules.specs.Syntax.{firsts};
@@ -120,60 +120,64 @@ fn has_name(attributes: &[(Name, Name)], name: &str) -> bool
 /// The most attributes of a tag that are compared with one another. The names of more are looked up.
 const FEW: usize = 16;
 
-/// How many attributes a tag with these bytes has at most, or one more than `FEW` where it may have more.
-fn count_up_to_many(bytes: &[u8]) -> usize {
-    bytes
-        .iter()
-        .filter(|byte| **byte == b'=')
-        .count()
-        .min(FEW + 1)
+/// The names of the attributes kept so far, where there are many.
+type Names = Option<BTreeSet<Name>>;
+
+/// The names of some attributes.
+fn names_of(alloc: Global, kept: &[(Name, Name)]) -> Result<BTreeSet<Name>, NoMemory>
+    ensures { IfOk result (λ names. HasNames (Some names) (names_of kept.now)) }
+{
+    let mut names = BTreeSet::new(alloc);
+    for (name, _) in kept {
+        names.insert(name.try_copy(alloc)?)?;
+    }
+    Ok(names)
 }
 
-/// The names of the attributes kept so far, where there may be many.
-type Names<'a> = Option<BTreeSet<&'a str>>;
-
-/// No names so far, in a tag of about so many attributes.
-fn no_names<'a>(alloc: Global, count: usize) -> Names<'a>
-    ensures { HasNames result [] }
+/// Sees to it that the names are looked up as soon as there are many.
+fn look_up_many(alloc: Global, kept: &[(Name, Name)], names: &mut Names) -> Result<(), NoMemory>
+    requires { HasNames names.old (names_of kept.now) }
+    ensures { OnOk result (HasNames names.new (names_of kept.now)) }
 {
-    if count > FEW {
-        Some(BTreeSet::new(alloc))
-    } else {
-        None
+    if names.is_none() && kept.len() >= FEW {
+        *names = Some(names_of(alloc, kept)?);
     }
+    Ok(())
 }
 
 /// Whether none of the attributes kept so far has this name, which counts as kept from now on.
-fn is_first<'a>(
+fn is_first(
+    alloc: Global,
     kept: &[(Name, Name)],
-    names: &mut Names<'a>,
-    name: &'a str,
+    names: &mut Names,
+    name: &Name,
 ) -> Result<bool, NoMemory>
     requires { HasNames names.old (names_of kept.now) }
     ensures first { IfOk result (λ first. first ≡ not (list_any (bytes_eq name.now) (names_of kept.now))) }
     ensures names { IfOk result (λ first. HasNames names.new (if first then names_of kept.now ++ name.now ∷ [] else names_of kept.now)) }
 {
     match names {
-        Some(names) => Ok(names.insert(name)?),
-        None => Ok(!has_name(kept, name)),
+        Some(names) => Ok(names.insert(name.try_copy(alloc)?)?),
+        None => Ok(!has_name(kept, name.as_str())),
     }
 }
 
 /// Adds an attribute, unless one of its name is there.
-fn push_first<'a>(
+pub(crate) fn push_first(
     alloc: Global,
     kept: &mut Seq<(Name, Name)>,
-    names: &mut Names<'a>,
-    attribute: Attribute<'a>,
+    names: &mut Names,
+    attribute: Attribute<'_>,
 ) -> Result<(), NoMemory>
     requires { HasNames names.old (names_of kept.old) }
     ensures kept { OnOk result (kept.new ≡ with_attribute (attribute_view attribute.entry) kept.old) }
     ensures names { OnOk result (HasNames names.new (names_of kept.new)) }
 {
-    if !is_first(kept.as_slice(), names, attribute.name)? {
+    look_up_many(alloc, kept.as_slice(), names)?;
+    let name = Name::from_str(alloc, attribute.name)?;
+    if !is_first(alloc, kept.as_slice(), names, &name)? {
         return Ok(());
     }
-    let name = Name::from_str(alloc, attribute.name)?;
     let value = Name::from_str(alloc, attribute.value.as_str())?;
     kept.push((name, value))
 }
@@ -209,9 +213,8 @@ pub(crate) fn attributes_at(
 ) -> Result<Option<(Seq<(Name, Name)>, &[u8])>, NoMemory>
     ensures { IfOk result (λ found. Agrees (λ a. (a.0, a.1.now)) found (rules.attributes_at bytes.now)) }
 {
-    let count = count_up_to_many(bytes);
-    let mut names = no_names(alloc, count);
-    let mut kept = Seq::from_vec(Vec::with_capacity(alloc, count)?);
+    let mut names = None;
+    let mut kept = Seq::new(alloc);
     let mut rest = bytes;
     while !is_tag_end(rest) {
         let Some((attribute, after)) = attribute_at(alloc, rest)? else {

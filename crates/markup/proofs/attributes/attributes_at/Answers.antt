@@ -7,11 +7,7 @@ use Rattle.markup.specs.Views.{attribute_view}
 use Rattle.markup.proofs.attributes.attributes_at.Goals as goal
 
 pub loop-alloc-init : goal.loop-alloc-init
-loop-alloc-init c =
-    let none = c.from_vec-kept.ensures ∙ c.in_ok-with_capacity.ensures.items in (
-      subst (λ kept. HasNames c.no_names-names.result (names_of kept)) (sym none) c.no_names-names.ensures,
-      ap (λ kept. attributes_behind kept c.args.bytes.now) none ∙ attributes_begin c.args.bytes.now,
-    )
+loop-alloc-init c = (tt, ap (λ kept. attributes_behind kept c.args.bytes.now) c.new-kept.ensures ∙ attributes_begin c.args.bytes.now)
 
 pub returns-in_default : goal.returns-in_default
 returns-in_default c =
