@@ -1,8 +1,12 @@
 pub mod Ascii
 pub mod ByteSearch
 mod Clauses
+pub mod Endings
+pub mod Fronts
 pub mod Loops
 mod NameSets
+pub mod Openings
 pub mod PlainLemmas
 pub mod PlainRuns
 pub mod Tables
+pub mod Taking

@@ -7,6 +7,7 @@ ghost use Rattle.markup_rules.specs.Reading.{Agrees};
 ghost use Rattle.markup_rules.specs.Bytes.{after_run};
 ghost use Rattle.markup_rules.proofs.Attributes.{names_of, with_attribute};
 ghost use Rattle.markup.specs.Names.{HasNames};
+ghost use Rattle.markup.specs.Openings.{attributes_to_end, end_at};
 ghost use Rattle.markup.specs.Views.{attribute_view, text_bytes};
 
 use crate::bytes::{after_blanks, starts_blank};
@@ -191,37 +192,51 @@ fn fitted(kept: Seq<(Name, Name)>) -> Seq<(Name, Name)>
     Seq::from_vec(items)
 }
 
-/// Whether the bytes are `/` alone.
-fn is_slash(bytes: &[u8]) -> bool
-    ensures { result ≡ rules.is_slash bytes.now }
+/// Whether a slash stands before the `>` at the front, and what follows it: blanks come first. None where an
+/// attribute is left, or the tag is of no right form.
+#[tactic(auto, unfolding(crate::specs::Openings::end_at))]
+fn end_at(bytes: &[u8]) -> Option<(bool, &[u8])>
+    ensures { Agrees (λ end. (end.0, end.1.now)) result (end_at bytes.now) }
 {
-    bytes == b"/".as_slice()
+    match after_blanks(bytes) {
+        [b'>', rest @ ..] => Some((false, rest)),
+        [b'/', b'>', rest @ ..] => Some((true, rest)),
+        _ => None,
+    }
 }
 
-/// Whether no attribute is left before the end of a tag.
-fn is_tag_end(bytes: &[u8]) -> bool
-    ensures { result ≡ rules.is_tag_end bytes.now }
-{
-    let rest = after_blanks(bytes);
-    rest.is_empty() || is_slash(rest)
+/// The attributes at the front, of those with one name the first; whether a slash stands behind them, and
+/// what follows the end of their tag.
+#[derive(Drop)]
+pub(crate) struct Attributes<'a> {
+    pub(crate) kept: Seq<(Name, Name)>,
+    pub(crate) has_slash: bool,
+    pub(crate) rest: &'a [u8],
 }
 
-/// The attributes at the front, of those with one name the first, and what ends their tag.
-pub(crate) fn attributes_at(
+/// The attributes at the front, up to the end of their tag.
+pub(crate) fn attributes_to_end(
     alloc: Global,
     bytes: &[u8],
-) -> Result<Option<(Seq<(Name, Name)>, &[u8])>, NoMemory>
-    ensures { IfOk result (λ found. Agrees (λ a. (a.0, a.1.now)) found (rules.attributes_at bytes.now)) }
+) -> Result<Option<Attributes<'_>>, NoMemory>
+    ensures { IfOk result (λ found. Agrees (λ a. ((a.kept, a.has_slash), a.rest.now)) found (attributes_to_end bytes.now)) }
 {
     let mut names = None;
     let mut kept = Seq::new(alloc);
     let mut rest = bytes;
-    while !is_tag_end(rest) {
+    loop {
+        if let Some((has_slash, rest)) = end_at(rest) {
+            let kept = fitted(kept);
+            return Ok(Some(Attributes {
+                kept,
+                has_slash,
+                rest,
+            }));
+        }
         let Some((attribute, after)) = attribute_at(alloc, rest)? else {
             return Ok(None);
         };
         push_first(alloc, &mut kept, &mut names, attribute)?;
         rest = after;
     }
-    Ok(Some((fitted(kept), rest)))
 }

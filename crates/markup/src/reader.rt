@@ -10,7 +10,6 @@ ghost use Rattle.markup_rules.specs.Outcome.{outcome};
 ghost use Rattle.markup.specs.Plain.{plain};
 
 use crate::element::Element;
-use crate::items::item_at;
 use crate::searches::begins;
 use crate::state::State;
 use outside::Stop;
@@ -36,9 +35,8 @@ fn read_items(alloc: Global, text: &[u8]) -> Result<Element, Stop>
     let mut state = State::new(alloc);
     let mut rest = after_mark(text);
     while !rest.is_empty() {
-        let (item, after) = item_at(rest);
-        match state.step(alloc, total, rest, item) {
-            Ok(()) => rest = after,
+        match state.step(alloc, total, rest) {
+            Ok(after) => rest = after,
             Err(stop) => return Err(stop),
         }
     }

@@ -1,16 +1,17 @@
-ghost use Rattle.std.specs.Prelude.{◌≡◌, ◌-◌, ◌≤◌, pos, length, MatchResult, OnOk, IfOk, is_some, string_bytes, ◌++◌, ◌∷◌, [], Ok, Err};
+ghost use Rattle.std.specs.Prelude.{◌≡◌, ◌-◌, ◌≤◌, ◌<◌, true, false, pos, length, MatchResult, OnOk, IfOk, is_some, string_bytes, ◌++◌, ◌∷◌, [], Ok, Err};
 ghost use Rattle.outside.specs.Reading.{Fails, Gives, IsStop};
 ghost use Rattle.markup_rules.specs.Bytes as byte_rules;
-ghost use Rattle.markup_rules.specs.Reading as rules;
+ghost use Rattle.markup_rules.specs.Reading.{opens};
 ghost use Rattle.markup_rules.specs.Faults.{is_allowed_at, is_innermost, lacks_end, spot};
 ghost use Rattle.markup_rules.specs.Outcome.{adopted, begun, changed, closed, initial, place_of_state, root_or_fault, step, texted};
 ghost use Rattle.markup.specs.Plain.{plain};
 ghost use Rattle.markup.specs.Views.{item_view, markup_view, opening_view, text_bytes};
-ghost use Rattle.markup.specs.States.{entry_of, frame_of, state_of};
+ghost use Rattle.markup.specs.States.{frame_of, state_of};
+ghost use Rattle.markup.specs.Steps.{BecomesOr, StepsOr, taken};
 
 use crate::element::Element;
-use crate::items::{Item, opens};
-use crate::markup::{Markup, Opening, markup_of};
+use crate::items::{Item, item_at, opens};
+use crate::markup::{Markup, Opening, markup_of, opening_at};
 use crate::text::Text;
 use outside::{Kind, Name, NoMemory, Seq, Stop, stop_at};
 use std::alloc::Global;
@@ -230,31 +231,74 @@ impl<'a> State<'a> {
         }
     }
 
-    /// Takes the item at the front of `rest`, which is the end of a text of `total` bytes, or stops at its
-    /// fault, by the order of the tests.
-    pub(crate) fn step(
-        &mut self,
-        alloc: Global,
-        total: usize,
-        rest: &[u8],
-        item: Item<'a>,
-    ) -> Result<(), Stop>
-        requires { length rest.now ≤ total }
-        ensures { MatchResult result (λ _. step total (entry_of rest.now (item_view item.entry)) (state_of self.old) ≡ Ok (state_of self.new)) (λ stop. Fails stop (step total (entry_of rest.now (item_view item.entry)) (state_of self.old))) }
+    /// Takes markup at a place, if it may stand there.
+    fn take_allowed(&mut self, alloc: Global, at: usize, markup: Markup<'a>) -> Result<(), Stop>
+        ensures { BecomesOr result (state_of self.new) (taken at (markup_view markup.entry) (state_of self.old)) }
     {
-        let at = total - rest.len();
-        if opens(rest) && self.depth() >= DEPTH {
-            return Err(stop(alloc, Kind::TooDeep, at));
-        }
-        if self.lacks_end(item) {
-            return Err(stop(alloc, Kind::Unfinished, total));
-        }
-        let markup = markup_of(alloc, item)?;
         if !self.allows(&markup) {
             return Err(stop(alloc, Kind::BadText, at));
         }
         self.take(alloc, at as u64, markup)?;
         Ok(())
+    }
+
+    /// Takes the item at the front of `rest` that starts an element.
+
+    fn open(&mut self, alloc: Global, total: usize, rest: &'a [u8]) -> Result<&'a [u8], Stop>
+        requires opening { opens rest.now ≡ true }
+        requires within { length rest.now ≤ total }
+        ensures { StepsOr result (state_of self.new) total rest.now (state_of self.old) }
+    {
+        let at = total - rest.len();
+        if self.depth() >= DEPTH {
+            return Err(stop(alloc, Kind::TooDeep, at));
+        }
+        let Some((markup, after)) = opening_at(alloc, &rest[1..])? else {
+            let (item, _) = item_at(rest);
+            if self.lacks_end(item) {
+                return Err(stop(alloc, Kind::Unfinished, total));
+            }
+            return Err(stop(alloc, Kind::BadText, at));
+        };
+        match self.take_allowed(alloc, at, markup) {
+            Ok(()) => Ok(after),
+            Err(stop) => Err(stop),
+        }
+    }
+
+    /// Takes the item at the front of `rest` that starts no element.
+    fn pass(&mut self, alloc: Global, total: usize, rest: &'a [u8]) -> Result<&'a [u8], Stop>
+        requires opening { opens rest.now ≡ false }
+        requires some { 0 < length rest.now }
+        requires within { length rest.now ≤ total }
+        ensures { StepsOr result (state_of self.new) total rest.now (state_of self.old) }
+    {
+        let (item, after) = item_at(rest);
+        if self.lacks_end(item) {
+            return Err(stop(alloc, Kind::Unfinished, total));
+        }
+        let markup = markup_of(alloc, item)?;
+        self.take_allowed(alloc, total - rest.len(), markup)?;
+        Ok(after)
+    }
+
+    /// Takes the item at the front of `rest`, which is the end of a text of `total` bytes, or stops at its
+    /// fault, by the order of the tests. What follows the item is left.
+    pub(crate) fn step(
+        &mut self,
+        alloc: Global,
+        total: usize,
+        rest: &'a [u8],
+    ) -> Result<&'a [u8], Stop>
+        requires some { 0 < length rest.now }
+        requires within { length rest.now ≤ total }
+        ensures { StepsOr result (state_of self.new) total rest.now (state_of self.old) }
+    {
+        if opens(rest) {
+            self.open(alloc, total, rest)
+        } else {
+            self.pass(alloc, total, rest)
+        }
     }
 
     /// The root, where it has ended.

@@ -127,7 +127,7 @@ label_again a rest is =
       after_run_again is_blank a.after_equals (a.quote ∷ content_then a.value (a.quote ∷ rest)) is.blank_after_equals (quote_no_blank a.quote is.quoted),
     ) refl
 
-attribute_again : (a : Attribute) (rest : List ℕ) → IsAttribute a → attribute_at (attribute_then a rest) ≡ Some (attribute_meaning a, rest)
+pub attribute_again : (a : Attribute) (rest : List ℕ) → IsAttribute a → attribute_at (attribute_then a rest) ≡ Some (attribute_meaning a, rest)
 unfolding attribute_at
 attribute_again a rest is = rw (label_again a rest is, value_again a.quote a.value rest is.quoted is.proper is.unquoted) refl
 
