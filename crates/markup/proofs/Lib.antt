@@ -8,5 +8,6 @@ mod NameSets
 pub mod Openings
 pub mod PlainLemmas
 pub mod PlainRuns
+pub mod PlainValues
 pub mod Tables
 pub mod Taking

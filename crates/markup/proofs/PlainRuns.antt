@@ -2,14 +2,16 @@
 use Rattle.std.proofs.Common.{◌≡◌, ℕ, Bool, true, false, cond, ◌&&◌, List, [], ◌∷◌, ◌++◌, Some, None, length, nat_lt, refl, sym, ap, ◌∙◌, append-nil, arith}
 use Rattle.std.specs.Prelude.{Option, nat_eq}
 use Rattle.std.specs.List.{list_all}
-use Rattle.std.specs.Str.{is_utf8}
+use Rattle.std.specs.Char.{is_ascii}
+use Rattle.std.specs.Str.{IsUtf8, is_utf8}
 use Rattle.std.proofs.lemmas.Bool.{and_parts}
 use Rattle.std.proofs.lemmas.Bool.Decides.{nat_tests}
 use Rattle.markup_rules.specs.Bytes.{is_plain, run_at, after_run}
 use Rattle.markup_rules.specs.Reading.{◌>>=◌, piece_at, run_of, content_of}
 use Rattle.markup_rules.proofs.Contents.{content_next, content_by, content_end}
+use Rattle.markup_rules.proofs.Fronts.{all_in}
 use Rattle.markup_rules.proofs.Utf8.{utf8_true}
-use Rattle.markup.specs.Views.{utf8_of}
+use Rattle.markup.specs.Views.{is_plain_ascii, utf8_of}
 use Rattle.markup.proofs.Ascii.{ascii_utf8}
 
 no_reference : (b : ℕ) → is_plain b ≡ true → nat_eq b 38 ≡ false
@@ -53,9 +55,18 @@ nil_utf8 = utf8_true [] (ascii_utf8 [] refl)
 abbrev if_valid : List ℕ → Bool → Option (List ℕ)
 if_valid bytes valid = cond valid (Some bytes) None
 
-pub content_plain : (bytes : List ℕ) → list_all is_plain bytes ≡ true → content_of bytes ≡ utf8_of bytes
-content_plain [] all = content_end ∙ ap (if_valid []) (sym nil_utf8)
-content_plain (b ∷ bytes) all =
+content_is_run : (bytes : List ℕ) → list_all is_plain bytes ≡ true → content_of bytes ≡ utf8_of bytes
+content_is_run [] all = content_end ∙ ap (if_valid []) (sym nil_utf8)
+content_is_run (b ∷ bytes) all =
     let some : nat_lt 0 (length (b ∷ bytes)) ≡ true = grind (arith, nat_tests) in
     let run = λ (long : Bool). let piece : Piece = cond (long && is_utf8 (b ∷ bytes)) (Some (b ∷ bytes, [])) None in piece in
     content_next b bytes ∙ (ap content_by (piece_plain b bytes all ∙ ap run some) ∙ one_run b bytes (is_utf8 (b ∷ bytes)))
+
+plain_in : (bytes : List ℕ) → list_all is_plain_ascii bytes ≡ true → list_all is_plain bytes ≡ true
+plain_in bytes all = all_in is_plain_ascii is_plain (λ b e. (and_parts (is_plain b) (is_ascii b) e).0) bytes all
+
+pub plain_utf8 : (bytes : List ℕ) → list_all is_plain_ascii bytes ≡ true → IsUtf8 bytes
+plain_utf8 bytes all = ascii_utf8 bytes (all_in is_plain_ascii is_ascii (λ b e. (and_parts (is_plain b) (is_ascii b) e).1) bytes all)
+
+pub content_plain : (bytes : List ℕ) → list_all is_plain_ascii bytes ≡ true → content_of bytes ≡ Some bytes
+content_plain bytes all = content_is_run bytes (plain_in bytes all) ∙ ap (if_valid bytes) (utf8_true bytes (plain_utf8 bytes all))

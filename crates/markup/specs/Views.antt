@@ -1,6 +1,8 @@
 -- What the values that code holds stand for.
-use Rattle.std.specs.Prelude.{ℕ, List, Option, Some, None, encode_utf8, string_bytes, if◌then◌else◌}
+use Rattle.std.specs.Prelude.{ℕ, Bool, not, ◌==◌, ◌&&◌, List, Option, Some, None, encode_utf8, string_bytes, if◌then◌else◌}
+use Rattle.std.specs.Char.{is_ascii}
 use Rattle.std.specs.Str.{is_utf8}
+use Rattle.markup_rules.specs.Bytes.{is_plain}
 use Rattle.markup.specs.declared.attributes.Attribute.{Attribute}
 use Rattle.markup_rules.specs.Reading as rules
 use Rattle.markup_rules.specs.Reading.{comment, instruction, declaration, tag, broken, unended, data_between, data_to_end}
@@ -18,6 +20,14 @@ use Rattle.markup.specs.declared.text.Text.TheVariants.{Borrowed, Owned}
 -- the bytes, if they are UTF-8
 abbrev pub utf8_of : List ℕ → Option (List ℕ)
 utf8_of bytes = if is_utf8 bytes then Some bytes else None
+
+-- a byte of ASCII that stands for itself in content
+abbrev pub is_plain_ascii : ℕ → Bool
+is_plain_ascii b = is_plain b && is_ascii b
+
+-- and that is no quote
+abbrev pub is_unquoted : ℕ → Bool
+is_unquoted b = is_plain_ascii b && (not (b == 34) && not (b == 39))
 
 abbrev pub piece_bytes : Piece → List ℕ
 piece_bytes (Run text) = text.now

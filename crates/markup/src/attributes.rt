@@ -1,4 +1,4 @@
-ghost use Rattle.std.specs.Prelude.{◌≡◌, ◌++◌, [], ◌∷◌, Some, map, not, IfOk, OnOk, option_map, if◌then◌else◌};
+ghost use Rattle.std.specs.Prelude.{◌≡◌, ◌++◌, [], ◌∷◌, Some, map, not, ◌==◌, ◌||◌, IfOk, IfSome, OnOk, option_map, if◌then◌else◌};
 ghost use Rattle.std.specs.List.{list_any};
 ghost use Rattle.std.specs.Str.{bytes_eq};
 ghost use Rattle.markup_rules.specs.Syntax.{firsts};
@@ -10,7 +10,7 @@ ghost use Rattle.markup.specs.Names.{HasNames};
 ghost use Rattle.markup.specs.Openings.{attributes_to_end, end_at};
 ghost use Rattle.markup.specs.Views.{attribute_view, text_bytes};
 
-use crate::bytes::{after_blanks, starts_blank};
+use crate::bytes::{after_blanks, split_unquoted, starts_blank};
 use crate::content::content_of;
 use crate::names::name_at;
 use crate::searches::place_of;
@@ -60,11 +60,50 @@ fn quoted_at(bytes: &[u8]) -> Option<(&[u8], &[u8])>
     }
 }
 
+/// Whether the byte is `"` or `'`.
+fn is_quote(byte: u8) -> bool
+    ensures { result ≡ ((byte == 34) || (byte == 39)) }
+{
+    byte == b'"' || byte == b'\''
+}
+
+/// What follows the byte at the front, where it is this one.
+fn behind(mark: u8, bytes: &[u8]) -> Option<&[u8]>
+    ensures { IfSome result (λ after. bytes.now ≡ mark ∷ after.now) }
+{
+    match bytes {
+        [] => None,
+        [byte, after @ ..] => { if *byte == mark { Some(after) } else { None } }
+    }
+}
+
+/// The value between quotes at the front, where it is ASCII without references and quotes, as most are; and
+/// what follows it.
+#[tactic(auto, using(crate::proofs::PlainValues::plain_value))]
+fn plain_value_at(bytes: &[u8]) -> Option<(&str, &[u8])>
+    ensures { IfSome result (λ found. rules.value_at bytes.now ≡ Some (found.0.now, found.1.now)) }
+{
+    match bytes {
+        [] => None,
+        [quote, rest @ ..] => {
+            if !is_quote(*quote) {
+                return None;
+            }
+            let (value, rest) = split_unquoted(rest);
+            let after = behind(*quote, rest)?;
+            Some((value, after))
+        }
+    }
+}
+
 /// The value between quotes at the front, and what follows it.
 #[tactic(auto, unfolding(markup_rules::specs::Reading::value_at))]
 fn value_at(alloc: Global, bytes: &[u8]) -> Result<Option<(Text<'_>, &[u8])>, NoMemory>
     ensures { IfOk result (λ found. Agrees (λ value. (text_bytes value.0, value.1.now)) found (rules.value_at bytes.now)) }
 {
+    if let Some((value, rest)) = plain_value_at(bytes) {
+        return Ok(Some((Text::Borrowed(value), rest)));
+    }
     let Some((value, rest)) = quoted_at(bytes) else {
         return Ok(None);
     };
@@ -166,13 +205,13 @@ fn is_first(
 /// Adds an attribute, unless one of its name is there.
 pub(crate) fn push_first(
     alloc: Global,
-    kept: &mut Seq<(Name, Name)>,
+    kept: &mut Vec<(Name, Name)>,
     names: &mut Names,
     attribute: Attribute<'_>,
 ) -> Result<(), NoMemory>
-    requires { HasNames names.old (names_of kept.old) }
-    ensures kept { OnOk result (kept.new ≡ with_attribute (attribute_view attribute.entry) kept.old) }
-    ensures names { OnOk result (HasNames names.new (names_of kept.new)) }
+    requires { HasNames names.old (names_of kept.old.items) }
+    ensures kept { OnOk result (kept.new.items ≡ with_attribute (attribute_view attribute.entry) kept.old.items) }
+    ensures names { OnOk result (HasNames names.new (names_of kept.new.items)) }
 {
     look_up_many(alloc, kept.as_slice(), names)?;
     let name = Name::from_str(alloc, attribute.name)?;
@@ -180,16 +219,17 @@ pub(crate) fn push_first(
         return Ok(());
     }
     let value = Name::from_str(alloc, attribute.value.as_str())?;
-    kept.push((name, value))
+    kept.push((name, value))?;
+    Ok(())
 }
 
-/// The same attributes, which take no more memory than they need.
-fn fitted(kept: Seq<(Name, Name)>) -> Seq<(Name, Name)>
-    ensures { result ≡ kept }
+/// The same attributes, which take no more memory than they need. The room that they had is left.
+fn take_fitted(alloc: Global, kept: &mut Vec<(Name, Name)>) -> Result<Seq<(Name, Name)>, NoMemory>
+    ensures { IfOk result (λ taken. taken ≡ kept.old.items) }
 {
-    let mut items = kept.into_vec();
-    items.shrink_to_fit();
-    Seq::from_vec(items)
+    let mut items = Vec::with_capacity(alloc, kept.len())?;
+    items.append(kept)?;
+    Ok(Seq::from_vec(items))
 }
 
 /// Whether a slash stands before the `>` at the front, and what follows it: blanks come first. None where an
@@ -214,19 +254,20 @@ pub(crate) struct Attributes<'a> {
     pub(crate) rest: &'a [u8],
 }
 
-/// The attributes at the front, up to the end of their tag.
-pub(crate) fn attributes_to_end(
+/// The attributes at the front, up to the end of their tag. They are gathered in `room`, whatever was in it.
+pub(crate) fn attributes_to_end<'a>(
     alloc: Global,
-    bytes: &[u8],
-) -> Result<Option<Attributes<'_>>, NoMemory>
+    room: &mut Vec<(Name, Name)>,
+    bytes: &'a [u8],
+) -> Result<Option<Attributes<'a>>, NoMemory>
     ensures { IfOk result (λ found. Agrees (λ a. ((a.kept, a.has_slash), a.rest.now)) found (attributes_to_end bytes.now)) }
 {
     let mut names = None;
-    let mut kept = Seq::new(alloc);
     let mut rest = bytes;
+    room.clear();
     loop {
         if let Some((has_slash, rest)) = end_at(rest) {
-            let kept = fitted(kept);
+            let kept = take_fitted(alloc, room)?;
             return Ok(Some(Attributes {
                 kept,
                 has_slash,
@@ -236,7 +277,7 @@ pub(crate) fn attributes_to_end(
         let Some((attribute, after)) = attribute_at(alloc, rest)? else {
             return Ok(None);
         };
-        push_first(alloc, &mut kept, &mut names, attribute)?;
+        push_first(alloc, room, &mut names, attribute)?;
         rest = after;
     }
 }

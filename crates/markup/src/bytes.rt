@@ -1,10 +1,11 @@
-ghost use Rattle.std.specs.Prelude.{◌≡◌, ◌≤◌, length};
+ghost use Rattle.std.specs.Prelude.{◌≡◌, ◌≤◌, length, IfSome, Some};
 ghost use Rattle.std.specs.List.{list_all};
 ghost use Rattle.markup_rules.specs.Bytes as rules;
 ghost use Rattle.std.specs.Char.{is_ascii};
 ghost use Rattle.markup_rules.specs.Bytes.{after_run, run_at};
 ghost use Rattle.markup_rules.specs.Reading.{Agrees};
-ghost use Rattle.markup.specs.Views.{utf8_of};
+ghost use Rattle.markup_rules.specs.Reading.{content_of};
+ghost use Rattle.markup.specs.Views.{is_plain_ascii, is_unquoted, utf8_of};
 
 // A byte that stands for itself in content.
 const PLAIN: u8 = 1;
@@ -15,16 +16,22 @@ const NAME_START: u8 = 2;
 // A byte with which names go on.
 const NAME: u8 = 4;
 
-// For each byte a digit, whose low bits are the flags above.
+// A byte of ASCII that stands for itself in content.
+const PLAIN_ASCII: u8 = 8;
+
+// The same, but for the two quotes.
+const UNQUOTED: u8 = 16;
+
+// For each byte a character, whose low five bits are the flags above.
 static CLASS: [u8; 256] = *b"\
-    00000000011001000000000000000000\
-    11111101111115515555555555710111\
-    17777777777777777777777777711117\
-    17777777777777777777777777711111\
-    77777777777777777777777777777777\
-    77777777777777777777777777777777\
-    77777777777777777777777777777777\
-    77777777777777777777777777777777";
+    @@@@@@@@@YY@@Y@@@@@@@@@@@@@@@@@@\
+    YYIYYY@IYYYYY]]Y]]]]]]]]]]_Y@YYY\
+    Y__________________________YYYY_\
+    Y__________________________YYYYY\
+    GGGGGGGGGGGGGGGGGGGGGGGGGGGGGGGG\
+    GGGGGGGGGGGGGGGGGGGGGGGGGGGGGGGG\
+    GGGGGGGGGGGGGGGGGGGGGGGGGGGGGGGG\
+    GGGGGGGGGGGGGGGGGGGGGGGGGGGGGGGG";
 
 /// Whether the byte is a space, tab, line feed or carriage return.
 pub(crate) fn is_blank(byte: u8) -> bool
@@ -194,11 +201,62 @@ pub(crate) fn split_name(bytes: &[u8]) -> (&[u8], &[u8])
     (front, rest)
 }
 
-/// Whether each byte stands for itself.
-pub(crate) fn are_plain(bytes: &[u8]) -> bool
-    ensures { result ≡ list_all rules.is_plain bytes.now }
+/// Whether the byte is ASCII and stands for itself in content.
+fn is_plain_ascii(byte: u8) -> bool
+    ensures { result ≡ is_plain_ascii byte }
 {
-    bytes.iter().all(|byte| is_plain(*byte))
+    CLASS[byte as usize] & PLAIN_ASCII != 0
+}
+
+/// Whether the byte is ASCII, stands for itself in content, and is no quote.
+fn is_unquoted(byte: u8) -> bool
+    ensures { result ≡ is_unquoted byte }
+{
+    CLASS[byte as usize] & UNQUOTED != 0
+}
+
+/// How many bytes of ASCII that stand for themselves and are no quotes are at the front.
+fn unquoted_length(bytes: &[u8]) -> usize
+    ensures count { result ≡ length (run_at is_unquoted bytes.now) }
+    ensures within { result ≤ length bytes.now }
+{
+    for (place, byte) in bytes.iter().enumerate() {
+        if !is_unquoted(*byte) {
+            return place;
+        }
+    }
+    bytes.len()
+}
+
+/// The ASCII that stands for itself, without quotes, at the front, and what follows it.
+#[tactic(auto, using(markup_rules::proofs::Runs::front_of_run, markup_rules::proofs::Runs::rest_of_run, crate::proofs::PlainValues::unquoted_utf8))]
+pub(crate) fn split_unquoted(bytes: &[u8]) -> (&str, &[u8])
+    ensures front { result.0.now ≡ run_at is_unquoted bytes.now }
+    ensures rest { result.1.now ≡ after_run is_unquoted bytes.now }
+{
+    let (front, rest) = bytes.split_at(unquoted_length(bytes));
+    // ASCII is UTF-8.
+    (unsafe { str::from_utf8_unchecked(front) }, rest)
+}
+
+/// Whether each byte is ASCII and stands for itself.
+fn are_plain_ascii(bytes: &[u8]) -> bool
+    ensures { result ≡ list_all is_plain_ascii bytes.now }
+{
+    bytes.iter().all(|byte| is_plain_ascii(*byte))
+}
+
+/// The bytes as text, if each is ASCII and stands for itself.
+#[tactic(auto, using(crate::proofs::PlainRuns::plain_utf8, crate::proofs::PlainRuns::content_plain))]
+pub(crate) fn plain_text(bytes: &[u8]) -> Option<&str>
+    ensures { IfSome result (λ text. content_of bytes.now ≡ Some text.now) }
+{
+    if are_plain_ascii(bytes) {
+        // ASCII is UTF-8.
+        Some(unsafe { str::from_utf8_unchecked(bytes) })
+    } else {
+        None
+    }
 }
 
 /// How many bytes that stand for themselves are at the front.

@@ -6,7 +6,7 @@ ghost use Rattle.std.specs.Str.Parse.{digits_value};
 ghost use Rattle.markup_rules.specs.Reading.{Agrees, allowed, character_of, content_of, number_of, number_reference, numbered, piece_at, reference_at, run_of};
 ghost use Rattle.markup.specs.Views.{piece_bytes, text_bytes};
 
-use crate::bytes::{are_plain, as_text, split_plain};
+use crate::bytes::{as_text, plain_text, split_plain};
 use crate::searches::place_of;
 use crate::text::{Piece, Text};
 use outside::NoMemory;
@@ -218,15 +218,11 @@ fn content_by_pieces(alloc: Global, bytes: &[u8]) -> Result<Option<Text<'_>>, No
 
 /// What characters and references mean, or None where a part is neither. It is borrowed where no reference
 /// stands in it.
-#[tactic(auto, using(crate::proofs::PlainRuns::content_plain))]
 pub(crate) fn content_of(alloc: Global, bytes: &[u8]) -> Result<Option<Text<'_>>, NoMemory>
     ensures { IfOk result (λ found. Agrees text_bytes found (content_of bytes.now)) }
 {
-    if are_plain(bytes) {
-        return match as_text(bytes) {
-            Some(text) => Ok(Some(Text::Borrowed(text))),
-            None => Ok(None),
-        };
+    match plain_text(bytes) {
+        Some(text) => Ok(Some(Text::Borrowed(text))),
+        None => content_by_pieces(alloc, bytes),
     }
-    content_by_pieces(alloc, bytes)
 }

@@ -43,17 +43,19 @@ pub(crate) enum Markup<'a> {
 }
 
 /// The start of an element behind its `<`, and what follows its `>`, or None where it is of no right form.
+/// Its attributes are gathered in `room`, whatever was in it.
 #[tactic(auto, unfolding(crate::specs::Openings::opening_at))]
-pub(crate) fn opening_at(
+pub(crate) fn opening_at<'a>(
     alloc: Global,
-    bytes: &[u8],
-) -> Result<Option<(Markup<'_>, &[u8])>, NoMemory>
+    room: &mut Vec<(Name, Name)>,
+    bytes: &'a [u8],
+) -> Result<Option<(Markup<'a>, &'a [u8])>, NoMemory>
     ensures { IfOk result (λ found. Agrees (λ o. (markup_view o.0, o.1.now)) found (opening_at bytes.now)) }
 {
     let Some((name, rest)) = name_at(bytes) else {
         return Ok(None);
     };
-    let Some(attributes) = attributes_to_end(alloc, rest)? else {
+    let Some(attributes) = attributes_to_end(alloc, room, rest)? else {
         return Ok(None);
     };
     let opening = Opening {

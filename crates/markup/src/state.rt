@@ -30,13 +30,14 @@ pub(crate) struct Open<'a> {
 }
 
 /// The innermost open element and those around it, the outermost first, the root where it has ended, and
-/// whether a document type has stood.
+/// whether a document type has stood. The attributes of one tag after another are gathered in `room`.
 #[derive(Drop)]
 pub(crate) struct State<'a> {
     innermost: Option<Open<'a>>,
     outer: Vec<Open<'a>>,
     root: Option<Element>,
     is_declared: bool,
+    room: Vec<(Name, Name)>,
 }
 
 /// The stop at a fault, which has nothing but its kind and its place.
@@ -112,6 +113,7 @@ impl<'a> State<'a> {
             outer: Vec::new(alloc),
             root: None,
             is_declared: false,
+            room: Vec::new(alloc),
         }
     }
 
@@ -253,7 +255,7 @@ impl<'a> State<'a> {
         if self.depth() >= DEPTH {
             return Err(stop(alloc, Kind::TooDeep, at));
         }
-        let Some((markup, after)) = opening_at(alloc, &rest[1..])? else {
+        let Some((markup, after)) = opening_at(alloc, &mut self.room, &rest[1..])? else {
             let (item, _) = item_at(rest);
             if self.lacks_end(item) {
                 return Err(stop(alloc, Kind::Unfinished, total));

@@ -102,7 +102,7 @@ quote_no_blank : (q : ℕ) → IsQuote q → not (is_blank q) ≡ true
 quote_no_blank q (inl e) = ap (λ b. not (is_blank b)) e
 quote_no_blank q (inr e) = ap (λ b. not (is_blank b)) e
 
-quoted_again : (q : ℕ) (bytes rest : List ℕ) → IsQuote q → list_all (λ b. not (b == q)) bytes ≡ true → quoted_at (q ∷ (bytes ++ q ∷ rest)) ≡ Some (bytes, rest)
+pub quoted_again : (q : ℕ) (bytes rest : List ℕ) → IsQuote q → list_all (λ b. not (b == q)) bytes ≡ true → quoted_at (q ∷ (bytes ++ q ∷ rest)) ≡ Some (bytes, rest)
 unfolding quoted_at
 quoted_again q bytes rest quote apart = rw (is_quote q quote, place_again q bytes rest apart, before_place bytes rest q, behind_place bytes rest q) refl
 

@@ -6,7 +6,7 @@ use Rattle.markup.proofs.Endings.{ending_behind}
 use Rattle.markup.proofs.attributes.attributes_to_end.Given as goal
 
 abbrev pub invariant-loop-has_slash : goal.invariant-loop-has_slash
-invariant-loop-has_slash l = HasNames l.names (names_of l.kept) × (ending_behind l.kept l.rest ≡ attributes_to_end l.bytes)
+invariant-loop-has_slash l = HasNames l.names (names_of l.room.items) × (ending_behind l.room.items l.rest ≡ attributes_to_end l.bytes)
 
 abbrev pub decreases-loop-has_slash : goal.decreases-loop-has_slash
 decreases-loop-has_slash l = length l.rest
