@@ -2,7 +2,8 @@
 use Rattle.std.specs.Prelude.{ℕ, Bool, not, ◌==◌, ◌&&◌, List, Option, Some, None, encode_utf8, string_bytes, if◌then◌else◌}
 use Rattle.std.specs.Char.{is_ascii}
 use Rattle.std.specs.Str.{is_utf8}
-use Rattle.markup_rules.specs.Bytes.{is_plain}
+use Rattle.std.specs.List.{list_all}
+use Rattle.markup_rules.specs.Bytes.{is_blank, is_plain}
 use Rattle.markup.specs.declared.attributes.Attribute.{Attribute}
 use Rattle.markup_rules.specs.Reading as rules
 use Rattle.markup_rules.specs.Reading.{comment, instruction, declaration, tag, broken, unended, data_between, data_to_end}
@@ -59,5 +60,5 @@ markup_view (Empty opening) = empty (opening_view opening)
 markup_view (Finish name) = finish name.now
 markup_view Aside = aside
 markup_view Doctype = doctype
-markup_view (Content is_blank text) = content is_blank (text_bytes text)
+markup_view (Content bytes text) = content (list_all is_blank bytes.now) (text_bytes text)
 markup_view Bad = bad

@@ -36,8 +36,8 @@ pub(crate) enum Markup<'a> {
     Aside,
     /// A document type.
     Doctype,
-    /// Characters and references: whether they are blanks alone, and what they mean.
-    Content(bool, Text<'a>),
+    /// Characters and references, and what they mean.
+    Content(&'a [u8], Text<'a>),
     /// Of no right form.
     Bad,
 }
@@ -110,7 +110,7 @@ fn data_markup(alloc: Global, bytes: &[u8]) -> Result<Markup<'_>, NoMemory>
     ensures { IfOk result (λ markup. markup_view markup ≡ unwrap_or (rules.data_markup bytes.now) bad) }
 {
     match content_of(alloc, bytes)? {
-        Some(text) => Ok(Markup::Content(are_blanks(bytes), text)),
+        Some(text) => Ok(Markup::Content(bytes, text)),
         None => Ok(Markup::Bad),
     }
 }

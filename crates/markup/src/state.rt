@@ -9,6 +9,7 @@ ghost use Rattle.markup.specs.Views.{item_view, markup_view, opening_view, text_
 ghost use Rattle.markup.specs.States.{frame_of, state_of};
 ghost use Rattle.markup.specs.Steps.{BecomesOr, StepsOr, taken};
 
+use crate::bytes::are_blanks;
 use crate::element::Element;
 use crate::items::{Item, item_at, opens};
 use crate::markup::{Markup, Opening, markup_of, opening_at};
@@ -149,7 +150,7 @@ impl<'a> State<'a> {
             Markup::Doctype => {
                 self.innermost.is_none() && self.root.is_none() && !self.is_declared
             }
-            Markup::Content(is_blank, _) => self.innermost.is_some() || *is_blank,
+            Markup::Content(bytes, _) => self.innermost.is_some() || are_blanks(bytes),
             Markup::Bad => false,
         }
     }
