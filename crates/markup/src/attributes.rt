@@ -18,6 +18,7 @@ use crate::text::Text;
 use outside::{Name, NoMemory, Seq};
 use std::alloc::Global;
 use std::collections::BTreeSet;
+use std::mem;
 
 /// What follows the blanks at the front, one at least.
 #[tactic(auto, unfolding(markup_rules::specs::Reading::blank_at))]
@@ -223,10 +224,15 @@ pub(crate) fn push_first(
     Ok(())
 }
 
-/// The same attributes, which take no more memory than they need. The room that they had is left.
+/// The same attributes, which take no more memory than they need. The room that a few had is left.
 fn take_fitted(alloc: Global, kept: &mut Vec<(Name, Name)>) -> Result<Seq<(Name, Name)>, NoMemory>
     ensures { IfOk result (λ taken. taken ≡ kept.old.items) }
 {
+    if kept.len() > FEW {
+        let mut items = mem::replace(kept, Vec::new(alloc));
+        items.shrink_to_fit();
+        return Ok(Seq::from_vec(items));
+    }
     let mut items = Vec::with_capacity(alloc, kept.len())?;
     items.append(kept)?;
     Ok(Seq::from_vec(items))
