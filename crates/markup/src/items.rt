@@ -155,6 +155,7 @@ fn data_at(bytes: &[u8]) -> (Item<'_>, &[u8])
 }
 
 /// The item at the front, and what follows it.
+#[inline(always)]
 #[tactic(auto, unfolding(markup_rules::specs::Reading::item_at))]
 pub(crate) fn item_at(bytes: &[u8]) -> (Item<'_>, &[u8])
     ensures { rules.item_at bytes.now ≡ (item_view result.0, result.1.now) }

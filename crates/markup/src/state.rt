@@ -235,6 +235,7 @@ impl<'a> State<'a> {
     }
 
     /// Takes markup at a place, if it may stand there.
+    #[inline(always)]
     fn take_allowed(&mut self, alloc: Global, at: usize, markup: Markup<'a>) -> Result<(), Stop>
         ensures { BecomesOr result (state_of self.new) (taken at (markup_view markup.entry) (state_of self.old)) }
     {
