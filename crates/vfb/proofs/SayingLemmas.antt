@@ -3,6 +3,7 @@ use Rattle.std.proofs.Common.{◌≡◌, ℕ, ◌≤◌, List, [], ◌∷◌, �
 use Rattle.std.proofs.lemmas.List.{append_cancel_left}
 use Rattle.outside.specs.Files.{Files, IsFront, HasRisen}
 use Rattle.outside.specs.Said.{Says}
+use Rattle.outside.specs.States.{SourcesState, OutputsState, SayState}
 use Rattle.basics.specs.declared.fault.Fault.{Fault}
 use Rattle.vfb.specs.Command.{Tuples}
 use Rattle.vfb.specs.Ending.{status_of, ending_line}
@@ -114,24 +115,21 @@ rises_late old mid new grows rose = omega arith
 
 -- ---- a command and its line
 
-module _ {X Y Z V E : Type 0}
-    {tells : X → Type 0} {sources : X → Files} {read_faults : X → ℕ} {reads_surely : X → Type 0}
-    {tells_outputs : Y → Type 0} {outputs : Y → Files} {write_faults : Y → ℕ} {writes_surely : Y → Type 0} {room : Y → List ℕ → Option ℕ}
-    {tells_said : Z → Type 0} {said : Z → List ℕ} {say_faults : Z → ℕ} {says_surely : Z → Type 0} {say_room : Z → ℕ}
-    {x x' : X} {y y' : Y} {z z' z'' : Z} {command : Option Tuples} {ending : Ending} {result : Result V E} {state : Status}
-    (does : Performs tells sources read_faults reads_surely tells_outputs outputs write_faults writes_surely room tells_said said say_faults says_surely say_room x x' y y' z z' command ending)
-    (says : Says tells_said said say_faults says_surely say_room z' z'' (ending_line ending) result) (is : state ≡ status_of ending) where
-  adds : tells_said z → AddsLine (HasRisen (say_faults z') (say_faults z'')) (ending_line ending) (said z') (said z'')
-  adds told = AddsLine-from result (ending_line ending) (said z') (said z'') (says.whole (does.told told)) (says.front (does.told told)) says.risen
+module _ {V E : Type 0} {sources sources' : SourcesState} {outputs outputs' : OutputsState} {say mid last : SayState}
+    {command : Option Tuples} {ending : Ending} {result : Result V E} {state : Status}
+    (does : Performs sources sources' outputs outputs' say mid command ending)
+    (says : Says mid last (ending_line ending) result) (is : state ≡ status_of ending) where
+  adds : say.tells → AddsLine (HasRisen mid.faults last.faults) (ending_line ending) mid.said last.said
+  adds told = AddsLine-from result (ending_line ending) mid.said last.said (says.whole (does.told told)) (says.front (does.told told)) says.risen
 
-  pub IsSaid-with_line : tells x → tells_said z → IsSaid command (sources x) (HasRisen (say_faults z) (say_faults z'')) (said z) (said z'') state
+  pub IsSaid-with_line : sources.tells → say.tells → IsSaid command sources.files (HasRisen say.faults last.faults) say.said last.said state
   IsSaid-with_line told told_said =
-      subst (IsSaid command (sources x) (HasRisen (say_faults z) (say_faults z'')) (said z) (said z'')) (sym is)
-      (IsSaid-from (rises_early (say_faults z) (say_faults z') (say_faults z'') says.counted) (rises_late (say_faults z) (say_faults z') (say_faults z'') does.counted)
-      command (sources x) (said z) (said z') (said z'') ending (does.answer told) (does.said_itself told told_said) (adds told_said))
+      subst (IsSaid command sources.files (HasRisen say.faults last.faults) say.said last.said) (sym is)
+      (IsSaid-from (rises_early say.faults mid.faults last.faults says.counted) (rises_late say.faults mid.faults last.faults does.counted)
+      command sources.files say.said mid.said last.said ending (does.answer told) (does.said_itself told told_said) (adds told_said))
 
-  pub IsCut-with_line : tells x → tells_outputs y → tells_said z → state ≡ status.WriteFault
-      → IsCut command (sources x) (HasRisen (say_faults z) (say_faults z'')) (outputs y) (outputs y') (said z) (said z'')
+  pub IsCut-with_line : sources.tells → outputs.tells → say.tells → state ≡ status.WriteFault
+      → IsCut command sources.files (HasRisen say.faults last.faults) outputs.files outputs'.files say.said last.said
   IsCut-with_line told told_outputs told_said fails =
-      IsCut-from (rises_early (say_faults z) (say_faults z') (say_faults z'') says.counted) (rises_late (say_faults z) (say_faults z') (say_faults z'') does.counted)
-      command (sources x) (outputs y) (outputs y') (said z) (said z') (said z'') ending (sym is ∙ fails) (does.cut told told_outputs told_said) (adds told_said)
+      IsCut-from (rises_early say.faults mid.faults last.faults says.counted) (rises_late say.faults mid.faults last.faults does.counted)
+      command sources.files outputs.files outputs'.files say.said mid.said last.said ending (sym is ∙ fails) (does.cut told told_outputs told_said) (adds told_said)

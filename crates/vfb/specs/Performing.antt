@@ -1,6 +1,7 @@
 -- What every function that performs a command makes of the outside, before the line of how it ended is said.
 use Rattle.std.specs.Prelude.{◌≡◌, ◌↔◌, ℕ, ◌≤◌, ◌⊎◌, List, ◌++◌, codes, Option, Some, None, Result, Ok, Err}
 use Rattle.outside.specs.Files.{Files, put, IsFront, HasRisen}
+use Rattle.outside.specs.States.{SourcesState, OutputsState, SayState}
 use Rattle.basics.specs.declared.fault.Fault.{Fault}
 use Rattle.vfb.specs.Command.{Tuples}
 use Rattle.vfb.specs.Masters.{Masters, masters_of}
@@ -42,24 +43,20 @@ IsCutItself None files risen old new said_old said_new _ = Unit {0}
 IsCutItself (Some command) files risen old new said_old said_new ending =
     FailsItself command (masters_of files command) risen old new said_old said_new ending
 
--- X is the sources, Y the outputs and Z the place where text is said, each old as the call begins and new as it
--- ends. Their members are those of Sources, Outputs and Say. The fields are named as the clauses of `run` that rest on
--- them; the last two serve the line that is said after the command.
-pub record Performs {X Y Z : Type 0}
-    (tells : X → Type 0) (sources : X → Files) (read_faults : X → ℕ) (reads_surely : X → Type 0)
-    (tells_outputs : Y → Type 0) (outputs : Y → Files) (write_faults : Y → ℕ) (writes_surely : Y → Type 0) (room : Y → List ℕ → Option ℕ)
-    (tells_said : Z → Type 0) (said : Z → List ℕ) (say_faults : Z → ℕ) (says_surely : Z → Type 0) (say_room : Z → ℕ)
-    (x x' : X) (y y' : Y) (z z' : Z) (command : Option Tuples) (ending : Ending) : Type 0 where
+-- The states are those of the sources, of the outputs and of the place where text is said, each as the call begins
+-- and, with a dash, as it ends. The fields are named as the clauses of `run` that rest on them; the last two serve the
+-- line that is said after the command.
+pub record Performs (sources sources' : SourcesState) (outputs outputs' : OutputsState) (say say' : SayState) (command : Option Tuples) (ending : Ending) : Type 0 where
   pub usage : (status_of ending ≡ status.Usage) ↔ (command ≡ None)
-  pub answer : tells x → IsAnswer command (sources x) (status_of ending)
-  pub read : status_of ending ≡ status.ReadFault → HasRisen (read_faults x) (read_faults x')
-  pub write : status_of ending ≡ status.WriteFault → HasRisen (write_faults y) (write_faults y') ⊎ HasRisen (say_faults z) (say_faults z')
-  pub same : sources x' ≡ sources x
-  pub unwritten : WritesNothing (status_of ending) → outputs y' ≡ outputs y
-  pub written : tells x → tells_outputs y → IsWritten command (sources x) (outputs y) (outputs y') (status_of ending)
-  pub said_itself : tells x → tells_said z → IsSaidItself command (sources x) (HasRisen (say_faults z) (say_faults z')) (said z) (said z') ending
-  pub cut : tells x → tells_outputs y → tells_said z → IsCutItself command (sources x) (HasRisen (say_faults z) (say_faults z')) (outputs y) (outputs y') (said z) (said z') ending
-  pub draws : tells x → tells_outputs y → status_of ending ≡ status.Ok → Draws command (sources x) (outputs y')
-  pub complete_sure : tells x → reads_surely x → tells_outputs y → writes_surely y → tells_said z → says_surely z → HasMasters command (sources x) → EndsBy (LacksRoom command (sources x) (room y) (say_room z) (said z)) (status_of ending)
-  pub told : tells_said z → tells_said z'
-  pub counted : say_faults z ≤ say_faults z'
+  pub answer : sources.tells → IsAnswer command sources.files (status_of ending)
+  pub read : status_of ending ≡ status.ReadFault → HasRisen sources.faults sources'.faults
+  pub write : status_of ending ≡ status.WriteFault → HasRisen outputs.faults outputs'.faults ⊎ HasRisen say.faults say'.faults
+  pub same : sources'.files ≡ sources.files
+  pub unwritten : WritesNothing (status_of ending) → outputs'.files ≡ outputs.files
+  pub written : sources.tells → outputs.tells → IsWritten command sources.files outputs.files outputs'.files (status_of ending)
+  pub said_itself : sources.tells → say.tells → IsSaidItself command sources.files (HasRisen say.faults say'.faults) say.said say'.said ending
+  pub cut : sources.tells → outputs.tells → say.tells → IsCutItself command sources.files (HasRisen say.faults say'.faults) outputs.files outputs'.files say.said say'.said ending
+  pub draws : sources.tells → outputs.tells → status_of ending ≡ status.Ok → Draws command sources.files outputs'.files
+  pub complete_sure : sources.tells → sources.is_sure → outputs.tells → outputs.is_sure → say.tells → say.is_sure → HasMasters command sources.files → EndsBy (LacksRoom command sources.files outputs.room say.room say.said) (status_of ending)
+  pub told : say.tells → say'.tells
+  pub counted : say.faults ≤ say'.faults

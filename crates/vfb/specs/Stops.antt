@@ -1,6 +1,7 @@
 -- How making the data of a command's glyph may stop, and what it makes of the sources.
 use Rattle.std.specs.Prelude.{◌≡◌, ℕ, ◌≤◌, ◌⊎◌, List, [], ◌∷◌, Result, Err, IsOk}
 use Rattle.outside.specs.Files.{Files, HasRisen}
+use Rattle.outside.specs.States.{SourcesState}
 use Rattle.basics.specs.Reading.{GivesBy}
 use Rattle.basics.specs.declared.fault.Fault.{Fault}
 use Rattle.vfb.specs.Command.{Placed}
@@ -46,12 +47,12 @@ StopsAt told files [] path = ⊥
 StopsAt told files (placed ∷ later) path =
     (path ≡ placed.path) ⊎ ((told → IsOk (drawing_at files placed)) × StopsAt told files later path)
 
--- X is the sources, old as the call begins and new as it ends. Its members tells, files, faults and is_sure are
--- those of Sources. Gives is what a call gives of sources that tell their files.
-pub record Reads {X V : Type 0} (tells : X → Type 0) (files : X → Files) (faults : X → ℕ) (is_sure : X → Type 0) (old new : X) (IsNamed : List ℕ → Type 0) (Gives : Type 0) (result : Result V ReadStop) : Type 0 where
-  pub told : tells old → tells new
-  pub same : files new ≡ files old
-  pub gives : tells old → Gives
-  pub counted : CountsStops (faults old) (faults new) result
+-- The states are those of the sources as the call begins and as it ends. Gives is what a call gives of sources that
+-- tell their files.
+pub record Reads {V : Type 0} (old new : SourcesState) (IsNamed : List ℕ → Type 0) (Gives : Type 0) (result : Result V ReadStop) : Type 0 where
+  pub told : old.tells → new.tells
+  pub same : new.files ≡ old.files
+  pub gives : old.tells → Gives
+  pub counted : CountsStops old.faults new.faults result
   pub named : Names IsNamed result
-  pub sure : is_sure old → is_sure new × NeverFails result
+  pub sure : old.is_sure → new.is_sure × NeverFails result

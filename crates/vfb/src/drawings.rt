@@ -9,8 +9,8 @@ ghost use Rattle.vfb.specs.Words.{seen};
 
 use crate::faults::{ReadStop, refuse_absent, refuse_length, refuse_spot};
 use crate::words::Placed;
-use glif::Drawing;
 use basics::{Kind, Seq, Stop, stop_at};
+use glif::Drawing;
 use outside::{Found, ReadError, Sources};
 use std::alloc::Global;
 
@@ -69,7 +69,7 @@ fn read_drawing<'a, S: Sources>(
     path: &'a str,
     sources: &mut S,
 ) -> Result<Drawing, ReadStop<'a>>
-    ensures reads { Reads S.tells S.files S.faults S.is_sure sources.old sources.new (λ named. named ≡ path.now) (IsReadFrom (drawing_in (S.files sources.old path.now) path.now) result) result }
+    ensures reads { Reads (S.state sources.old) (S.state sources.new) (λ named. named ≡ path.now) (IsReadFrom (drawing_in ((S.state sources.old).files path.now) path.now) result) result }
     ensures within { IfOk result (λ drawing. IsWithinLimits drawing.outline) }
 {
     match sources.read(alloc, path, FILE_LIMIT) {
@@ -88,7 +88,7 @@ pub(crate) fn read_drawings<'a, S: Sources>(
     placed: &[Placed<'a>],
     sources: &mut S,
 ) -> Result<Seq<Drawing>, ReadStop<'a>>
-    ensures reads { Reads S.tells S.files S.faults S.is_sure sources.old sources.new (StopsAt (S.tells sources.old) (S.files sources.old) (map seen placed.now)) (IsReadFrom (drawings_of (S.files sources.old) (map seen placed.now)) result) result }
+    ensures reads { Reads (S.state sources.old) (S.state sources.new) (StopsAt (S.state sources.old).tells (S.state sources.old).files (map seen placed.now)) (IsReadFrom (drawings_of (S.state sources.old).files (map seen placed.now)) result) result }
     ensures one_each { IfOk result (λ drawings. length drawings ≡ length placed.now) }
     ensures within { IfOk result (All (λ (drawing : Drawing). IsWithinLimits drawing.outline)) }
 {

@@ -54,7 +54,7 @@ impl<'a> Ending<'a> {
 
 /// Says how a command ended, where the work isn't done.
 pub(crate) fn say_ending<T: Say>(say: &mut T, ending: &Ending<'_>) -> Result<(), Failed>
-    ensures { Says T.tells T.said T.faults T.is_sure T.room say.old say.new (ending_line ending.now) result }
+    ensures { Says (T.state say.old) (T.state say.new) (ending_line ending.now) result }
 {
     match ending {
         Ending::Done => Ok(()),

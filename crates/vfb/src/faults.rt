@@ -4,8 +4,8 @@ ghost use Rattle.vfb.specs.Faults.{fault_at, file_fault, length_fault};
 ghost use Rattle.vfb.specs.Masters.{difference_fault, place_fault, range_fault};
 ghost use Rattle.vfb.specs.Stops.{Refuses};
 
-use compat::Difference;
 use basics::{Fault, Kind, Name, NoMemory, Spot};
+use compat::Difference;
 use std::alloc::Global;
 
 /// Why the data of a glyph could not be made.

@@ -15,10 +15,10 @@ use crate::drawings::read_drawings;
 use crate::faults::{ReadStop, refuse_delta};
 use crate::masters::{Masters, gather};
 use crate::words::Command;
+use basics::Seq;
 use delta_solve::{DeltaStop, GlyphModel, solve_glyph, table};
 use glyph_variations::variations;
 use gvar_table::glyph_data;
-use basics::Seq;
 use outside::Sources;
 use region_support::{Support, boxes};
 use std::alloc::Global;
@@ -116,7 +116,7 @@ pub(crate) fn make_data<'a, S: Sources>(
     sources: &mut S,
 ) -> Result<GlyphData, ReadStop<'a>>
     requires { ArePlaced (map seen command.now.drawings.items) }
-    ensures { Reads S.tells S.files S.faults S.is_sure sources.old sources.new (StopsAt (S.tells sources.old) (S.files sources.old) (map seen command.now.drawings.items)) (Makes (masters_of (S.files sources.old) (asked command.now)) result) result }
+    ensures { Reads (S.state sources.old) (S.state sources.new) (StopsAt (S.state sources.old).tells (S.state sources.old).files (map seen command.now.drawings.items)) (Makes (masters_of (S.state sources.old).files (asked command.now)) result) result }
 {
     let placed = command.drawings.as_slice();
     let drawings = read_drawings(alloc, placed, sources)?;

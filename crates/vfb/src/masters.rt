@@ -14,8 +14,8 @@ ghost use Rattle.vfb.specs.Words.{seen};
 use crate::contours::all_alike;
 use crate::faults::{ReadStop, refuse_places};
 use crate::words::Placed;
-use glif::{Drawing, Outline, Point};
 use basics::{Kind, Name, NoMemory, Seq};
+use glif::{Drawing, Outline, Point};
 use region_support::{Location, ModelStop, in_order, order};
 use std::alloc::Global;
 

@@ -19,7 +19,7 @@ fn perform<'a, S: Sources, O: Outputs, T: Say>(
     outputs: &mut O,
     say: &mut T,
 ) -> Ending<'a>
-    ensures { Performs S.tells S.files S.faults S.is_sure O.tells O.files O.faults O.is_sure O.room T.tells T.said T.faults T.is_sure T.room sources.old sources.new outputs.old outputs.new say.old say.new (command_of (map string_bytes words.now.items)) result }
+    ensures { Performs (S.state sources.old) (S.state sources.new) (O.state outputs.old) (O.state outputs.new) (T.state say.old) (T.state say.new) (command_of (map string_bytes words.now.items)) result }
 {
     match parse(words) {
         Some(command) => tuples(alloc, &command, sources, outputs, say),
@@ -55,22 +55,22 @@ pub fn run<S: Sources, O: Outputs, T: Say>(
     // The words alone decide on Usage.
     ensures usage { (result ≡ Status.Usage) ↔ (command_of (map string_bytes words.now.items) ≡ None) }
     // Where the sources tell their files: exactly which fault is refused.
-    ensures answer { S.tells sources.old → IsAnswer (command_of (map string_bytes words.now.items)) (S.files sources.old) result }
+    ensures answer { (S.state sources.old).tells → IsAnswer (command_of (map string_bytes words.now.items)) (S.state sources.old).files result }
     ensures rejected { (line : ℕ) → result ≡ Status.Rejected line → ⊥ }
     // A fault of a device comes only where its count rose in this call.
-    ensures read { result ≡ Status.ReadFault → HasRisen (S.faults sources.old) (S.faults sources.new) }
-    ensures write { result ≡ Status.WriteFault → HasRisen (O.faults outputs.old) (O.faults outputs.new) ⊎ HasRisen (T.faults say.old) (T.faults say.new) }
+    ensures read { result ≡ Status.ReadFault → HasRisen (S.state sources.old).faults (S.state sources.new).faults }
+    ensures write { result ≡ Status.WriteFault → HasRisen (O.state outputs.old).faults (O.state outputs.new).faults ⊎ HasRisen (T.state say.old).faults (T.state say.new).faults }
     // What the outside holds afterwards.
-    ensures same { S.files sources.new ≡ S.files sources.old }
-    ensures unwritten { WritesNothing result → O.files outputs.new ≡ O.files outputs.old }
-    ensures written { S.tells sources.old → O.tells outputs.old → IsWritten (command_of (map string_bytes words.now.items)) (S.files sources.old) (O.files outputs.old) (O.files outputs.new) result }
-    ensures said { S.tells sources.old → T.tells say.old → IsSaid (command_of (map string_bytes words.now.items)) (S.files sources.old) (HasRisen (T.faults say.old) (T.faults say.new)) (T.said say.old) (T.said say.new) result }
-    ensures cut { S.tells sources.old → O.tells outputs.old → T.tells say.old → result ≡ Status.WriteFault → IsCut (command_of (map string_bytes words.now.items)) (S.files sources.old) (HasRisen (T.faults say.old) (T.faults say.new)) (O.files outputs.old) (O.files outputs.new) (T.said say.old) (T.said say.new) }
+    ensures same { (S.state sources.new).files ≡ (S.state sources.old).files }
+    ensures unwritten { WritesNothing result → (O.state outputs.new).files ≡ (O.state outputs.old).files }
+    ensures written { (S.state sources.old).tells → (O.state outputs.old).tells → IsWritten (command_of (map string_bytes words.now.items)) (S.state sources.old).files (O.state outputs.old).files (O.state outputs.new).files result }
+    ensures said { (S.state sources.old).tells → (T.state say.old).tells → IsSaid (command_of (map string_bytes words.now.items)) (S.state sources.old).files (HasRisen (T.state say.old).faults (T.state say.new).faults) (T.state say.old).said (T.state say.new).said result }
+    ensures cut { (S.state sources.old).tells → (O.state outputs.old).tells → (T.state say.old).tells → result ≡ Status.WriteFault → IsCut (command_of (map string_bytes words.now.items)) (S.state sources.old).files (HasRisen (T.state say.old).faults (T.state say.new).faults) (O.state outputs.old).files (O.state outputs.new).files (T.state say.old).said (T.state say.new).said }
     // The headline: what the bytes written draw.
-    ensures draws { S.tells sources.old → O.tells outputs.old → result ≡ Status.Ok → Draws (command_of (map string_bytes words.now.items)) (S.files sources.old) (O.files outputs.new) }
+    ensures draws { (S.state sources.old).tells → (O.state outputs.old).tells → result ≡ Status.Ok → Draws (command_of (map string_bytes words.now.items)) (S.state sources.old).files (O.state outputs.new).files }
     // Nothing gives up but for memory.
-    ensures complete { S.tells sources.old → HasMasters (command_of (map string_bytes words.now.items)) (S.files sources.old) → ¬ (HasRisen (S.faults sources.old) (S.faults sources.new)) → ¬ (HasRisen (O.faults outputs.old) (O.faults outputs.new)) → ¬ (HasRisen (T.faults say.old) (T.faults say.new)) → EndsBy ⊥ result }
-    ensures complete_sure { S.tells sources.old → S.is_sure sources.old → O.tells outputs.old → O.is_sure outputs.old → T.tells say.old → T.is_sure say.old → HasMasters (command_of (map string_bytes words.now.items)) (S.files sources.old) → EndsBy (LacksRoom (command_of (map string_bytes words.now.items)) (S.files sources.old) (O.room outputs.old) (T.room say.old) (T.said say.old)) result }
+    ensures complete { (S.state sources.old).tells → HasMasters (command_of (map string_bytes words.now.items)) (S.state sources.old).files → ¬ (HasRisen (S.state sources.old).faults (S.state sources.new).faults) → ¬ (HasRisen (O.state outputs.old).faults (O.state outputs.new).faults) → ¬ (HasRisen (T.state say.old).faults (T.state say.new).faults) → EndsBy ⊥ result }
+    ensures complete_sure { (S.state sources.old).tells → (S.state sources.old).is_sure → (O.state outputs.old).tells → (O.state outputs.old).is_sure → (T.state say.old).tells → (T.state say.old).is_sure → HasMasters (command_of (map string_bytes words.now.items)) (S.state sources.old).files → EndsBy (LacksRoom (command_of (map string_bytes words.now.items)) (S.state sources.old).files (O.state outputs.old).room (T.state say.old).room (T.state say.old).said) result }
 {
     let ending = perform(alloc, words, sources, outputs, say);
     // A line that can't be said changes nothing.

@@ -3,7 +3,10 @@
 
 use super::*;
 use basics::{Name, Seq};
-use outside::{Found, MemoryOutputs, MemorySay, MemorySources, ReadError, Sources, SureOutputs, SureSay, SureSources};
+use outside::{
+    Found, MemoryOutputs, MemorySay, MemorySources, ReadError, Sources, SureOutputs, SureSay,
+    SureSources,
+};
 use std::process::Abort;
 use std::test::Fail;
 
@@ -355,13 +358,7 @@ struct LongSources;
 impl Sources for LongSources {
     ghost use Rattle.std.specs.Prelude.{None};
 
-    ghost tells = { λ _. ⊥ };
-
-    ghost files = { λ _ _. None };
-
-    ghost faults = { λ _. 0 };
-
-    ghost is_sure = { λ _. ⊥ };
+    ghost state = { λ _. record { tells = ⊥; files = λ _. None; faults = 0; is_sure = ⊥ } };
 
     fn read(&mut self, _: Global, _: &str, limit: usize) -> Result<Found, ReadError> {
         match limit.checked_add(1) {

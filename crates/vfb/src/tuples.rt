@@ -13,7 +13,7 @@ use std::alloc::Global;
 
 /// Writes the bytes to the path in one piece.
 fn write_file<O: Outputs>(outputs: &mut O, path: &str, bytes: &[u8]) -> Result<(), Failed>
-    ensures { WritesFile O.tells O.files O.faults O.is_sure O.room outputs.old outputs.new path.now bytes.now result }
+    ensures { WritesFile (O.state outputs.old) (O.state outputs.new) path.now bytes.now result }
 {
     match outputs.begin(path) {
         Ok(()) => outputs.append(bytes),
@@ -30,7 +30,7 @@ pub(crate) fn tuples<'a, S: Sources, O: Outputs, T: Say>(
     say: &mut T,
 ) -> Ending<'a>
     requires { ArePlaced (map seen command.now.drawings.items) }
-    ensures { Performs S.tells S.files S.faults S.is_sure O.tells O.files O.faults O.is_sure O.room T.tells T.said T.faults T.is_sure T.room sources.old sources.new outputs.old outputs.new say.old say.new (Some (asked command.now)) result }
+    ensures { Performs (S.state sources.old) (S.state sources.new) (O.state outputs.old) (O.state outputs.new) (T.state say.old) (T.state say.new) (Some (asked command.now)) result }
 {
     let data = match make_data(alloc, command, sources) {
         Ok(data) => data,
