@@ -22,20 +22,11 @@ use Rattle.glyph_variations.proofs.ModelLemmas.{is_variable, points_of_default}
 use Rattle.vfb.specs.Glyph.{IsMadeOf, IsDrawnBy, regions, outline_count, axis_count}
 use Rattle.vfb.specs.Lines.{counts_line}
 use Rattle.vfb.specs.Masters.{Masters, AreGathered, fitting, masters_or, range_fault}
-use Rattle.vfb.specs.Stops.{Refuses, StopsBy}
-use Rattle.vfb.specs.declared.faults.ReadStop.{ReadStop}
-use Rattle.vfb.specs.declared.faults.ReadStop.TheVariants.{Refused, ReadFault, NoMemory}
 
 -- there is a region for each master
 pub one_region_each : (supports : List (ArrayVec Triple)) (locations : List (ArrayVec ℤ)) → regions_in supports ≡ regions (record { name = []; locations = places_of locations; outlines = [] }) → length supports ≡ length locations
 one_region_each supports locations same =
     sym (length-map supports (λ (support : ArrayVec Triple). support.items)) ∙ (ap length same ∙ (regions_count (places_of locations) ∙ length-map locations (λ (at : ArrayVec ℤ). at.items)))
-
--- a call that refuses the fault of a reading stops by it
-pub StopsBy-refused : {V : Type 0} (reading : Result V Fault) (fault : Fault) (stop : ReadStop) → reading ≡ Err fault → Refuses fault stop → StopsBy stop reading
-StopsBy-refused reading fault (Refused found) is refuses = is ∙ ap Err (sym refuses)
-StopsBy-refused reading fault (ReadFault path) is refuses = absurd refuses
-StopsBy-refused reading fault NoMemory is refuses = tt
 
 -- a delta that doesn't fit is the masters' fault
 pub fitting_fault : (masters : Masters) (found : List (List Triple)) (master point : ℕ) (y : Bool) (value : ℤ) → found ≡ regions masters

@@ -16,9 +16,9 @@ use Rattle.compat.specs.Differences.{outline_difference}
 use Rattle.compat.specs.declared.compared.Difference.{Difference}
 use Rattle.compat.proofs.Alike.{none_alike}
 use Rattle.vfb.specs.Making.{ArePlaced, shown}
-use Rattle.vfb.specs.Stops.{StopsBy}
-use Rattle.vfb.specs.declared.faults.ReadStop.{ReadStop}
-use Rattle.vfb.specs.declared.faults.ReadStop.TheVariants.{Refused, ReadFault, NoMemory}
+use Rattle.source_files.specs.Stops.{StopsBy}
+use Rattle.source_files.specs.declared.stop.ReadStop.{ReadStop}
+use Rattle.source_files.specs.declared.stop.ReadStop.TheVariants.{Refused, ReadFault, NoMemory}
 use Rattle.vfb.specs.Command.{Placed}
 use Rattle.glif.specs.declared.shape.Outline.{Outline}
 use Rattle.glif.specs.declared.shape.Drawing.{Drawing}

@@ -4,11 +4,12 @@ use Rattle.std.proofs.lemmas.List.{append_cancel_left}
 use Rattle.outside.specs.Files.{Files, put, IsFront}
 use Rattle.basics.specs.declared.fault.Fault.{Fault}
 use Rattle.vfb.specs.Command.{Placed, Tuples}
-use Rattle.vfb.specs.Stops.{StopsAt, StopsBy, Names}
+use Rattle.source_files.specs.Stops.{StopsBy, Names}
+use Rattle.vfb.specs.Stops.{StopsAt}
 use Rattle.vfb.specs.Ending.{ending_of}
 use Rattle.vfb.specs.declared.glyph.GlyphData.{GlyphData}
-use Rattle.vfb.specs.declared.faults.ReadStop.{ReadStop}
-use Rattle.vfb.specs.declared.faults.ReadStop.TheVariants.{Refused, ReadFault, NoMemory}
+use Rattle.source_files.specs.declared.stop.ReadStop.{ReadStop}
+use Rattle.source_files.specs.declared.stop.ReadStop.TheVariants.{Refused, ReadFault, NoMemory}
 use Rattle.vfb.specs.Masters.{Masters}
 use Rattle.vfb.specs.Glyph.{Made, IsMadeOf}
 use Rattle.vfb.specs.Outcome.{Writes, Overflows}
@@ -33,12 +34,12 @@ StopsAt-told files (placed ∷ later) path tells (inr (read, stops)) = inr (λ _
 
 -- the data could not be made: nothing was said
 pub SaysItself-stopped : {told : Type 0} (risen : Type 0) (command : Tuples) (files : Files) (reading : Result Masters Fault) (old : List ℕ) (stop : ReadStop)
-    → told → StopsBy stop reading → Names {V = GlyphData} (StopsAt told files command.drawings) (Err stop) → SaysItself command files reading risen old old (ending_of stop)
+    → told → StopsBy stop reading → Names {X = GlyphData} (StopsAt told files command.drawings) (Err stop) → SaysItself command files reading risen old old (ending_of stop)
 SaysItself-stopped risen command files (Ok masters) old (Refused fault) tells is named = refl
-SaysItself-stopped risen command files (Ok masters) old (ReadFault path) tells is named = (StopsAt-told files command.drawings path.now tells named, refl)
+SaysItself-stopped risen command files (Ok masters) old (ReadFault path) tells is named = (StopsAt-told files command.drawings path tells named, refl)
 SaysItself-stopped risen command files (Ok masters) old NoMemory tells is named = refl
 SaysItself-stopped risen command files (Err fault) old (Refused found) tells is named = refl
-SaysItself-stopped risen command files (Err fault) old (ReadFault path) tells is named = (StopsAt-told files command.drawings path.now tells named, refl)
+SaysItself-stopped risen command files (Err fault) old (ReadFault path) tells is named = (StopsAt-told files command.drawings path tells named, refl)
 SaysItself-stopped risen command files (Err fault) old NoMemory tells is named = refl
 
 -- the data were made, and saying failed behind them: the file is whole

@@ -1,26 +1,68 @@
 -- Reading the drawings of a command one after another.
-use Rattle.std.proofs.Common.{◌≡◌, ℕ, ◌≤◌, List, length, map, drop, All}
+use Rattle.std.proofs.Common.{◌≡◌, ℕ, ◌+◌, ◌<◌, ◌≤◌, List, [], ◌∷◌, ◌++◌, length, map, drop, get_or, All, Result, Ok, Err, refl, sym, ◌∙◌, ap, subst, inr, arith, add-one, append_assoc, length-append, drop-cons}
+use Rattle.std.proofs.lemmas.List.Elements.{All-push}
+use Rattle.std.specs.Prelude.{IsOk}
 use Rattle.outside.specs.States.{SourcesState}
-use Rattle.basics.specs.Reading.{with_front}
+use Rattle.basics.specs.Reading.{◌>>=◌, each, with_front}
+use Rattle.basics.specs.declared.fault.Fault.{Fault}
 use Rattle.glif.specs.Limits.{IsWithinLimits}
 use Rattle.glif.specs.declared.shape.Drawing.{Drawing}
+use Rattle.source_files.specs.Stops.{Answers, GoesOn, Reads}
+use Rattle.source_files.specs.declared.stop.ReadStop.{ReadStop}
 use Rattle.vfb.specs.Command.{Placed}
-use Rattle.vfb.specs.Faults.{drawings_of}
+use Rattle.vfb.specs.Faults.{drawing_at, drawings_of}
 use Rattle.vfb.specs.Stops.{StopsAt}
 use Rattle.vfb.specs.Words.{seen}
 use Rattle.vfb.specs.declared.words.Placed as words
 
--- the rest of the drawings that the words place
+-- the drawings that the words place from a number on
 abbrev pub rest_from : List words.Placed → ℕ → List Placed
 rest_from placed i = map seen (drop i placed)
 
 -- the drawings in front of a number were read, and those from it on are left
 pub record HasRead (old : SourcesState) (placed : List words.Placed) (now : SourcesState) (i : ℕ) (drawings : List Drawing) : Type 0 where
-  pub told : old.tells → now.tells
-  pub same : now.files ≡ old.files
-  pub left : old.tells → drawings_of old.files (map seen placed) ≡ with_front drawings (drawings_of old.files (rest_from placed i))
-  pub counted : old.faults ≤ now.faults
-  pub named : (path : List ℕ) → StopsAt old.tells old.files (rest_from placed i) path → StopsAt old.tells old.files (map seen placed) path
-  pub sure : old.is_sure → now.is_sure
+  pub goes_on : GoesOn old now (StopsAt old.tells old.files (map seen placed)) (StopsAt old.tells old.files (rest_from placed i))
+      (drawings_of old.files (map seen placed) ≡ with_front drawings (drawings_of old.files (rest_from placed i)))
   pub one_each : length drawings ≡ i
   pub within : All (λ (drawing : Drawing). IsWithinLimits drawing.outline) drawings
+
+-- what is left once one more is read
+front_more : {B F : Type 0} (front : List B) (x : B) (later : Result (List B) F) → with_front front (with_front (x ∷ []) later) ≡ with_front (front ++ (x ∷ [])) later
+front_more front x (Ok xs) = ap Ok (sym (append_assoc front (x ∷ []) xs))
+front_more front x (Err fault) = refl
+
+one_more : {B F : Type 0} (x : B) (later : Result (List B) F) → (later >>= λ xs. Ok (x ∷ xs)) ≡ with_front (x ∷ []) later
+one_more x (Ok xs) = refl
+one_more x (Err fault) = refl
+
+each_more : {A B F : Type 0} (f : A → Result B F) (first : A) (rest : List A) (x : B) → f first ≡ Ok x → each f (first ∷ rest) ≡ with_front (x ∷ []) (each f rest)
+each_more f first rest x is = rw is (one_more x (each f rest))
+
+-- the drawing of a number is read
+pub has_read_more : (old mid new : SourcesState) (placed : List words.Placed) (i : ℕ) (front grown : List Drawing) (one : words.Placed) (drawing : Drawing)
+    → i < length placed → one ≡ get_or placed i one → HasRead old placed mid i front
+    → Reads {X = Drawing} mid new (λ named. named ≡ one.path.now) (Answers (λ (d : Drawing). d) (Ok drawing) (drawing_at mid.files (seen one))) (Ok drawing)
+    → IsWithinLimits drawing.outline → grown ≡ front ++ (drawing ∷ []) → HasRead old placed new (i + 1) grown
+has_read_more old mid new placed i front grown one drawing below is before reads within is_grown =
+    let rest = rest_from placed (i + 1) in
+    let here : rest_from placed i ≡ seen one ∷ rest = rw (add-one, drop-cons placed i one below, ← is) refl in
+    let read : (old.tells → drawing_at old.files (seen one) ≡ Ok drawing) =
+    λ told. subst (λ files. drawing_at files (seen one) ≡ Ok drawing) before.goes_on.same (reads.gives (before.goes_on.told told)) in
+    record {
+      goes_on = record {
+        told = λ told. reads.told (before.goes_on.told told);
+        same = reads.same ∙ before.goes_on.same;
+        left = λ told.
+            before.goes_on.left told
+            ∙ (ap (λ left. with_front front (drawings_of old.files left)) here
+            ∙ (ap (with_front front) (each_more (drawing_at old.files) (seen one) rest drawing (read told))
+            ∙ (front_more front drawing (drawings_of old.files rest) ∙ ap (λ read. with_front read (drawings_of old.files rest)) (sym is_grown))));
+        counted = omega (arith, before.goes_on.counted, reads.counted);
+        named = λ path later.
+            before.goes_on.named path (subst (λ left. StopsAt old.tells old.files left path) (sym here)
+            (inr (λ told. subst IsOk (sym (read told)) refl, later)));
+        sure = λ sure. (reads.sure (before.goes_on.sure sure)).0;
+      };
+      one_each = ap length is_grown ∙ (simp length-append (omega (arith, before.one_each)));
+      within = subst (All (λ (drawing : Drawing). IsWithinLimits drawing.outline)) (sym is_grown) (All-push (λ (drawing : Drawing). IsWithinLimits drawing.outline) front drawing before.within within);
+    }

@@ -59,7 +59,7 @@ module _ {inner later risen : Type 0} (first : inner → risen) (second : later 
   SaysOf-from command files (Ok masters) old mid new Done answer (made, of, says) adds = (made, of, AddsLine-none mid new adds ∙ says)
   SaysOf-from command files (Ok masters) old mid new (Refused fault) answer says adds = absurd answer
   SaysOf-from command files (Ok masters) old mid new Usage answer says adds = absurd answer
-  SaysOf-from command files (Ok masters) old mid new (ReadFault path) answer (at, same) adds = (path.now, at, AddsLine-wider (read_fault_line path.now) old mid new second same adds)
+  SaysOf-from command files (Ok masters) old mid new (ReadFault path) answer (at, same) adds = (path, at, AddsLine-wider (read_fault_line path) old mid new second same adds)
   SaysOf-from command files (Ok masters) old mid new (WriteFault path) answer (inl at) adds =
       inl (subst (λ path. AddsLine risen (write_fault_line path) old new) at.0 (AddsLine-wider (write_fault_line path.now) old mid new second at.1 adds))
   SaysOf-from command files (Ok masters) old mid new (WriteFault path) answer (inr (at, (made, of, says))) adds =
@@ -68,7 +68,7 @@ module _ {inner later risen : Type 0} (first : inner → risen) (second : later 
   SaysOf-from command files (Err fault) old mid new Done answer says adds = absurd answer
   SaysOf-from command files (Err fault) old mid new (Refused found) answer says adds = AddsLine-wider (refused_line found) old mid new second says adds
   SaysOf-from command files (Err fault) old mid new Usage answer says adds = absurd answer
-  SaysOf-from command files (Err fault) old mid new (ReadFault path) answer (at, same) adds = (path.now, at, AddsLine-wider (read_fault_line path.now) old mid new second same adds)
+  SaysOf-from command files (Err fault) old mid new (ReadFault path) answer (at, same) adds = (path, at, AddsLine-wider (read_fault_line path) old mid new second same adds)
   SaysOf-from command files (Err fault) old mid new (WriteFault path) answer says adds = absurd answer
   SaysOf-from command files (Err fault) old mid new NoMemory answer says adds = AddsLine-wider _ old mid new second says adds
 

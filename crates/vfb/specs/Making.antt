@@ -8,8 +8,8 @@ use Rattle.vfb.specs.Command.{Placed}
 use Rattle.vfb.specs.Lines.{counts_line}
 use Rattle.vfb.specs.Masters.{Masters, places_of_drawings}
 use Rattle.vfb.specs.Glyph.{Made, IsMadeOf, IsDrawnBy}
-use Rattle.vfb.specs.Stops.{StopsBy}
-use Rattle.vfb.specs.declared.faults.ReadStop.{ReadStop}
+use Rattle.source_files.specs.Stops.{StopsBy}
+use Rattle.source_files.specs.declared.stop.ReadStop.{ReadStop}
 use Rattle.vfb.specs.declared.masters.Masters as code
 use Rattle.vfb.specs.declared.glyph.GlyphData.{GlyphData}
 

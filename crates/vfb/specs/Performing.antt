@@ -22,7 +22,7 @@ abbrev pub SaysItself : Tuples → Files → Result Masters Fault → Type 0 →
 SaysItself command files (Ok masters) risen old new Done = (made : Made) × IsMadeOf masters made × (new ≡ old ++ made.summary)
 SaysItself command files (Ok masters) risen old new (WriteFault path) =
     ((path.now ≡ command.out) × (new ≡ old)) ⊎ ((path.now ≡ codes "-") × ((made : Made) × IsMadeOf masters made × SaysFront risen made.summary old new))
-SaysItself command files _ risen old new (ReadFault path) = StopsAt (Unit {0}) files command.drawings path.now × (new ≡ old)
+SaysItself command files _ risen old new (ReadFault path) = StopsAt (Unit {0}) files command.drawings path × (new ≡ old)
 SaysItself command files _ risen old new _ = new ≡ old
 
 abbrev pub IsSaidItself : Option Tuples → Files → Type 0 → List ℕ → List ℕ → Ending → Type 0

@@ -8,15 +8,16 @@ ghost use Rattle.region_support.specs.Places.{places_of};
 ghost use Rattle.region_support.specs.Sorting.{IsOrder};
 ghost use Rattle.vfb.specs.Making.{ArePlaced, shown};
 ghost use Rattle.vfb.specs.Masters.{AreGathered, drawing_numbered, gathered, masters_in, ordered, places_of_drawings};
-ghost use Rattle.vfb.specs.Stops.{StopsBy, IsReadFrom, NeverFails};
+ghost use Rattle.source_files.specs.Stops.{Answers, StopsBy, NeverFails};
 ghost use Rattle.vfb.specs.Words.{seen};
 
 use crate::contours::all_alike;
-use crate::faults::{ReadStop, refuse_places};
+use crate::faults::place_fault;
 use crate::words::Placed;
 use basics::{Kind, Name, NoMemory, Seq};
 use glif::{Drawing, Outline, Point};
 use region_support::{Location, ModelStop, in_order, order};
+use source_files::ReadStop;
 use std::alloc::Global;
 
 /// The masters of a glyph in their order, the default first.
@@ -49,18 +50,18 @@ fn places_of(alloc: Global, placed: &[Placed<'_>]) -> Result<Seq<Location>, NoMe
 }
 
 /// The numbers of the drawings at these places, in the order of masters.
-fn ordered<'a>(alloc: Global, places: &Seq<Location>) -> Result<Seq<u32>, ReadStop<'a>>
+fn ordered(alloc: Global, places: &Seq<Location>) -> Result<Seq<u32>, ReadStop>
     requires lengths { All (λ at. array_vec_len at ≡ axes_of (places_of places.now)) places.now }
     requires few { length places.now ≤ 128 }
-    ensures order { IsReadFrom (ordered (places_of places.now)) result }
+    ensures order { Answers (λ order. order) result (ordered (places_of places.now)) }
     ensures never { NeverFails result }
     ensures masters { IfOk result (IsOrder (places_of places.now)) }
 {
     match order(alloc, places) {
         Ok(order) => Ok(order),
-        Err(ModelStop::NoDefault) => Err(refuse_places(alloc, Kind::NoDefaultSource, 0, 0)),
+        Err(ModelStop::NoDefault) => Err(ReadStop::Refused(place_fault(alloc, Kind::NoDefaultSource, 0, 0)?)),
         Err(ModelStop::SameLocation(first, second)) => {
-            Err(refuse_places(alloc, Kind::SameLocation, first, second))
+            Err(ReadStop::Refused(place_fault(alloc, Kind::SameLocation, first, second)?))
         }
         Err(ModelStop::NoMemory) => Err(ReadStop::NoMemory),
     }
@@ -114,11 +115,11 @@ fn masters_in(
 
 /// The masters that the drawings are, one for each that the words place: in their order, all with
 /// contours like the default's.
-pub(crate) fn gather<'a>(
+pub(crate) fn gather(
     alloc: Global,
-    placed: &[Placed<'a>],
+    placed: &[Placed<'_>],
     drawings: &[Drawing],
-) -> Result<Masters, ReadStop<'a>>
+) -> Result<Masters, ReadStop>
     requires placed { ArePlaced (map seen placed.now) }
     requires one_each { length drawings.now ≡ length placed.now }
     requires within { All (λ (drawing : Drawing). IsWithinLimits drawing.outline) drawings.now }
@@ -129,10 +130,6 @@ pub(crate) fn gather<'a>(
     let places = places_of(alloc, placed)?;
     let order = ordered(alloc, &places)?;
     let default = &drawings[order.as_slice()[0] as usize];
-    match all_alike(alloc, default, placed, drawings) {
-        Ok(()) => {}
-        Err(stop) => return Err(stop),
-    }
-    let masters = masters_in(alloc, &places, drawings, &order)?;
-    Ok(masters)
+    all_alike(alloc, default, placed, drawings)?;
+    Ok(masters_in(alloc, &places, drawings, &order)?)
 }
