@@ -1,7 +1,6 @@
 -- Making the variation data of masters.
-use Rattle.std.proofs.Common.{◌≡◌, ℕ, ℤ, ◌+◌, ◌<◌, ◌≤◌, Bool, Some, List, [], ◌∷◌, length, Result, Err, sym, ◌∙◌, ap, subst, arith, All}
+use Rattle.std.proofs.Common.{◌≡◌, ℕ, ℤ, ◌+◌, Bool, Some, List, [], ◌∷◌, ◌++◌, append-nil, length, Err, sym, ◌∙◌, ap, subst, arith, All}
 use Rattle.std.proofs.lemmas.List.{length-map}
-use Rattle.basics.specs.declared.fault.Fault.{Fault}
 use Rattle.arrayvec.specs.ArrayVec.{ArrayVec, array_vec_len}
 use Rattle.variation_rules.specs.declared.region.Triple.{Triple}
 use Rattle.variation_rules.specs.declared.tuple.TupleVariation.{TupleVariation}
@@ -19,7 +18,10 @@ use Rattle.glyph_variations.specs.Conditions.{AreWritable, IsVariable, point_cou
 use Rattle.glyph_variations.specs.Variations.{AreVariations, explicit_points, outline_points}
 use Rattle.glyph_variations.proofs.DrawsLemmas.{models_are_drawn}
 use Rattle.glyph_variations.proofs.ModelLemmas.{is_variable, points_of_default}
-use Rattle.vfb.specs.Glyph.{IsMadeOf, IsDrawnBy, regions, outline_count, axis_count}
+use Rattle.vfb.specs.Glyph.{IsDataOf, IsDrawnBy, regions, outline_count, axis_count}
+use Rattle.outside.specs.Files.{Files, content}
+use Rattle.vfb.specs.Product.{File, written}
+use Rattle.vfb.proofs.FileLemmas.{content-put}
 use Rattle.vfb.specs.Lines.{counts_line}
 use Rattle.vfb.specs.Masters.{Masters, AreGathered, fitting, masters_or, range_fault}
 
@@ -46,7 +48,7 @@ module _ (masters : Masters) (gathered : AreGathered masters) (model : GlyphMode
   -- the data are made of the masters
   pub is_made : (tuples : List TupleVariation) (bytes : List ℕ) (count explicit points : ℕ) → AreVariations model.lengths (regions masters) model.tuples tuples
       → IsWritten (point_count model.tuples + 4) bytes tuples → count ≡ length tuples → explicit ≡ explicit_points (point_count model.tuples) tuples → points ≡ outline_points (point_count model.tuples) tuples
-      → IsMadeOf masters (record { bytes = bytes; summary = counts_line count explicit points })
+      → IsDataOf masters bytes (counts_line count explicit points)
   is_made tuples bytes count explicit points are written counted named all = record {
     model = model;
     tuples = tuples;
@@ -76,3 +78,9 @@ are_writable masters supports gathered axis_each normalised none = record {
   normalised = normalised gathered.normalised;
   none_if_ignored = none;
 }
+
+-- what the bytes draw is what the path draws to which they are written
+pub drawn_in_file : (masters : Masters) (out bytes : List ℕ) (files : List File) (old : Files) → files ≡ record { path = out; pieces = bytes ∷ [] } ∷ [] → IsDrawnBy masters bytes → IsDrawnBy masters (content (written files old) out)
+drawn_in_file masters out bytes files old is drawn =
+    subst (λ files. IsDrawnBy masters (content (written files old) out)) (sym is)
+    (subst (IsDrawnBy masters) (sym (content-put old out (bytes ++ []) ∙ append-nil bytes)) drawn)

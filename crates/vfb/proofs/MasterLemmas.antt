@@ -1,5 +1,5 @@
 -- Gathering the masters of a glyph.
-use Rattle.std.proofs.Common.{◌≡◌, ℕ, zero, suc, ℤ, All, Option, Some, None, Ok, Err, subst, ◌+◌, ◌<◌, List, [], ◌∷◌, ◌++◌, length, map, take, drop, get_or, true, add-one, drop-cons, refl, sym, ◌∙◌, ap, arith}
+use Rattle.std.proofs.Common.{◌≡◌, ℕ, zero, suc, ℤ, All, Option, Some, None, Ok, Err, subst, ◌+◌, ◌<◌, List, [], ◌∷◌, ◌++◌, length, map, take, drop, get_or, add-one, drop-cons, refl, sym, ◌∙◌, ap, arith}
 use Rattle.std.proofs.lemmas.List.{get_or_default, take_more, map-append, length-map, get_or-map}
 use Rattle.arrayvec.specs.ArrayVec.{ArrayVec, array_vec_len}
 use Rattle.region_support.specs.Places.{places_of}

@@ -9,9 +9,9 @@ use Rattle.std.proofs.lemmas.List.Splits.{length-slice_split}
 use Rattle.fixpoint.specs.DecimalText.{whole_of}
 use Rattle.fixpoint.specs.declared.decimal.NumberFault.{NumberFault}
 use Rattle.region_support.specs.Regions.{IsNormalised, AreNormalisedPlaces}
-use Rattle.vfb.specs.Command.{coordinate_by, coordinate_of, place_of, placed_of, are_on_axes, drawings_named, command_of, Placed, Tuples}
+use Rattle.vfb.specs.Command.{coordinate_by, coordinate_of, place_of, placed_of, are_on_axes, drawings_named, command_of, Command, Placed, tuples}
 use Rattle.vfb.specs.Masters.{places_of_drawings}
-use Rattle.vfb.specs.Making.{ArePlaced}
+use Rattle.vfb.specs.Making.{ArePlaced, IsProper}
 use Rattle.basics.specs.Optional.{◌>>=◌, each}
 
 -- ---- each item gives such a value
@@ -126,14 +126,11 @@ named_if (Some drawings) each = choose (nat_le (length drawings) 128 && are_on_a
 
 -- ---- commands
 
-abbrev pub IsProper : Tuples → Type 0
-IsProper command = ArePlaced command.drawings
-
-tuples_if : (out : List ℕ) (found : Option (List Placed)) → IfSome found ArePlaced → IfSome (found >>= λ drawings. Some (record { out = out; drawings = drawings })) IsProper
+tuples_if : (out : List ℕ) (found : Option (List Placed)) → IfSome found ArePlaced → IfSome (found >>= λ drawings. Some (tuples (record { out = out; drawings = drawings }))) IsProper
 tuples_if out None are = tt
 tuples_if out (Some drawings) are = are
 
-if_proper : (test : Bool) (found : Option Tuples) → IfSome found IsProper → IfSome (if test then found else None) IsProper
+if_proper : (test : Bool) (found : Option Command) → IfSome found IsProper → IfSome (if test then found else None) IsProper
 if_proper true found is = is
 if_proper false found is = tt
 
@@ -145,5 +142,5 @@ command_is (program ∷ name ∷ []) = tt
 command_is (program ∷ name ∷ out ∷ words) =
     if_proper (bytes_eq name (codes "tuples")) _ (tuples_if out (drawings_named words) (named_if (each placed_of words) (each_such IsPlaced placed_of placed_is words)))
 
-pub proper : (words : List (List ℕ)) (command : Tuples) → Some command ≡ command_of words → ArePlaced command.drawings
+pub proper : (words : List (List ℕ)) (command : Command) → Some command ≡ command_of words → IsProper command
 proper words command is = subst (λ found. IfSome found IsProper) (sym is) (command_is words)

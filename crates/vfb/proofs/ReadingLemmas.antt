@@ -1,14 +1,12 @@
 -- Reading the drawings of a command one after another.
-use Rattle.std.proofs.Common.{◌≡◌, ℕ, ◌+◌, ◌<◌, ◌≤◌, List, [], ◌∷◌, ◌++◌, length, map, drop, get_or, All, Result, Ok, Err, refl, sym, ◌∙◌, ap, subst, inr, arith, add-one, append_assoc, length-append, drop-cons}
+use Rattle.std.proofs.Common.{◌≡◌, ℕ, ◌+◌, ◌<◌, List, [], ◌∷◌, ◌++◌, length, map, drop, get_or, All, Result, Ok, Err, refl, sym, ◌∙◌, ap, subst, inr, arith, add-one, append_assoc, length-append, drop-cons}
 use Rattle.std.proofs.lemmas.List.Elements.{All-push}
 use Rattle.std.specs.Prelude.{IsOk}
 use Rattle.outside.specs.States.{SourcesState}
 use Rattle.basics.specs.Reading.{◌>>=◌, each, with_front}
-use Rattle.basics.specs.declared.fault.Fault.{Fault}
 use Rattle.glif.specs.Limits.{IsWithinLimits}
 use Rattle.glif.specs.declared.shape.Drawing.{Drawing}
 use Rattle.source_files.specs.Stops.{Answers, GoesOn, Reads}
-use Rattle.source_files.specs.declared.stop.ReadStop.{ReadStop}
 use Rattle.vfb.specs.Command.{Placed}
 use Rattle.vfb.specs.Faults.{drawing_at, drawings_of}
 use Rattle.vfb.specs.Stops.{StopsAt}

@@ -16,6 +16,10 @@ pub record Tuples : Type 0 where
   pub out : List ℕ
   pub drawings : List Placed
 
+-- what words ask for: one case a command
+pub data Command : Type 0 where
+  tuples : Tuples → Command
+
 -- a number from -16384 to 16384
 abbrev pub coordinate_by : Result ℤ NumberFault → Option ℤ
 coordinate_by (Ok raw) = if int_le (negsuc 16383) raw && int_le raw (pos 16384) then Some raw else None
@@ -43,7 +47,7 @@ drawings_named words = each placed_of words >>= λ drawings. if nat_le (length d
 
 -- The words are the program's name, `tuples`, the file to write, and 1 to 128 drawings at places of as many axes. All
 -- other words are none of a command.
-abbrev pub command_of : List (List ℕ) → Option Tuples
+abbrev pub command_of : List (List ℕ) → Option Command
 command_of (program ∷ name ∷ out ∷ words) =
-    if bytes_eq name (codes "tuples") then (drawings_named words >>= λ drawings. Some (record { out = out; drawings = drawings })) else None
+    if bytes_eq name (codes "tuples") then (drawings_named words >>= λ drawings. Some (tuples (record { out = out; drawings = drawings }))) else None
 command_of _ = None

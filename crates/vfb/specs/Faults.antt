@@ -1,5 +1,5 @@
 -- The drawings that a command names, or the first fault of their files.
-use Rattle.std.specs.Prelude.{ℕ, pos, List, [], ◌∷◌, Result, Ok, Err}
+use Rattle.std.specs.Prelude.{pos, List, [], ◌∷◌, Result, Ok, Err}
 use Rattle.outside.specs.Files.{Files}
 use Rattle.basics.specs.Reading.{◌>>=◌, each, spot_of}
 use Rattle.basics.specs.declared.kinds.Kind.TheVariants.{DanglingComponent}

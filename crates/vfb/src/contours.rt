@@ -26,7 +26,12 @@ pub(crate) fn all_alike(
     for (index, drawing) in drawings.iter().enumerate() {
         if let Some(difference) = compare(&default.outline, &drawing.outline) {
             let path = placed[index].path;
-            return Err(ReadStop::Refused(difference_fault(alloc, &default.name, path, difference)?));
+            return Err(ReadStop::Refused(difference_fault(
+                alloc,
+                &default.name,
+                path,
+                difference,
+            )?));
         }
     }
     Ok(())

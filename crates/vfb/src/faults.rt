@@ -28,12 +28,7 @@ pub(crate) fn difference_fault(
 }
 
 /// A fault of the places of the drawings with these two numbers.
-pub(crate) fn place_fault(
-    alloc: Global,
-    kind: Kind,
-    at: u32,
-    also: u32,
-) -> Result<Fault, NoMemory>
+pub(crate) fn place_fault(alloc: Global, kind: Kind, at: u32, also: u32) -> Result<Fault, NoMemory>
     ensures { IfOk result (λ fault. fault ≡ place_fault kind at also) }
 {
     Ok(Fault {

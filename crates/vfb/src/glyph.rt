@@ -6,16 +6,16 @@ ghost use Rattle.delta_solve.specs.GlyphModels.{IsModelOf, IsTupleWithin};
 ghost use Rattle.delta_solve.specs.declared.model.GlyphModel.{GlyphModel};
 ghost use Rattle.glyph_variations.specs.Conditions.{AreGlyphTuples, point_count};
 ghost use Rattle.vfb.specs.Glyph.{regions};
-ghost use Rattle.vfb.specs.Making.{ArePlaced, Makes, shown};
+ghost use Rattle.vfb.specs.Making.{ArePlaced, MakesData, shown};
 ghost use Rattle.vfb.specs.Masters.{AreGathered, fitting, masters_of};
 ghost use Rattle.source_files.specs.Stops.{NeverFails, Reads, StopsBy};
 ghost use Rattle.vfb.specs.Stops.{StopsAt};
-ghost use Rattle.vfb.specs.Words.{asked, seen};
+ghost use Rattle.vfb.specs.Words.{asked_tuples, seen};
 
 use crate::drawings::read_drawings;
 use crate::faults::range_fault;
 use crate::masters::{Masters, gather};
-use crate::words::Command;
+use crate::words::Tuples;
 use basics::Seq;
 use delta_solve::{DeltaStop, GlyphModel, solve_glyph, table};
 use glyph_variations::variations;
@@ -93,7 +93,7 @@ fn model_of(
 /// The variation data of the masters.
 fn data_of(alloc: Global, masters: &Masters) -> Result<GlyphData, ReadStop>
     requires { AreGathered (shown masters.now) }
-    ensures makes { Makes (fitting (shown masters.now)) result }
+    ensures makes { MakesData (fitting (shown masters.now)) result }
     ensures never { NeverFails result }
 {
     let supports = boxes(alloc, &masters.locations)?;
@@ -111,11 +111,11 @@ fn data_of(alloc: Global, masters: &Masters) -> Result<GlyphData, ReadStop>
 /// Reads the drawings of a command, and makes the variation data of the glyph whose masters they are.
 pub(crate) fn make_data<S: Sources>(
     alloc: Global,
-    command: &Command<'_>,
+    command: &Tuples<'_>,
     sources: &mut S,
 ) -> Result<GlyphData, ReadStop>
     requires { ArePlaced (map seen command.now.drawings.items) }
-    ensures { Reads (S.state sources.old) (S.state sources.new) (StopsAt (S.state sources.old).tells (S.state sources.old).files (map seen command.now.drawings.items)) (Makes (masters_of (S.state sources.old).files (asked command.now)) result) result }
+    ensures { Reads (S.state sources.old) (S.state sources.new) (StopsAt (S.state sources.old).tells (S.state sources.old).files (map seen command.now.drawings.items)) (MakesData (masters_of (S.state sources.old).files (asked_tuples command.now)) result) result }
 {
     let placed = command.drawings.as_slice();
     let drawings = read_drawings(alloc, placed, sources)?;

@@ -1,6 +1,6 @@
 ghost use Rattle.std.specs.Prelude.{◌≡◌};
 ghost use Rattle.outside.specs.Said.{Says};
-ghost use Rattle.vfb.specs.Lines.{or_dash, refused_line, usage_line, read_fault_line, write_fault_line, no_memory_line, counts_line};
+ghost use Rattle.vfb.specs.Lines.{or_dash, refused_line, usage_line, read_fault_line, write_fault_line, no_memory_line};
 
 use basics::Fault;
 use outside::{Failed, Piece, Say, say_all};
@@ -78,27 +78,4 @@ pub(crate) fn say_no_memory<T: Say>(say: &mut T) -> Result<(), Failed>
     ensures { Says (T.state say.old) (T.state say.new) no_memory_line result }
 {
     say_all(say, &[Piece::Word("no memory\n")])
-}
-
-/// Says how many tuples were written, how many explicit points they have, and among how many points.
-pub(crate) fn say_counts<T: Say>(
-    say: &mut T,
-    tuples: u64,
-    explicit: u64,
-    points: u64,
-) -> Result<(), Failed>
-    ensures { Says (T.state say.old) (T.state say.new) (counts_line tuples explicit points) result }
-{
-    say_all(
-        say,
-        &[
-            Piece::Word("tuples "),
-            Piece::Count(tuples),
-            Piece::Word(" explicit "),
-            Piece::Count(explicit),
-            Piece::Word(" of "),
-            Piece::Count(points),
-            Piece::Word("\n"),
-        ],
-    )
 }

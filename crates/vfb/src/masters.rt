@@ -59,7 +59,12 @@ fn ordered(alloc: Global, places: &Seq<Location>) -> Result<Seq<u32>, ReadStop>
 {
     match order(alloc, places) {
         Ok(order) => Ok(order),
-        Err(ModelStop::NoDefault) => Err(ReadStop::Refused(place_fault(alloc, Kind::NoDefaultSource, 0, 0)?)),
+        Err(ModelStop::NoDefault) => Err(ReadStop::Refused(place_fault(
+            alloc,
+            Kind::NoDefaultSource,
+            0,
+            0,
+        )?)),
         Err(ModelStop::SameLocation(first, second)) => {
             Err(ReadStop::Refused(place_fault(alloc, Kind::SameLocation, first, second)?))
         }

@@ -1,15 +1,36 @@
 ghost use Rattle.std.specs.Prelude.{◌≡◌, ℕ, ◌↔◌, ◌⊎◌, List, map, string_bytes, None};
 ghost use Rattle.outside.specs.Files.{content, HasRisen};
+ghost use Rattle.source_files.specs.Stops.{Reads};
 ghost use Rattle.vfb.specs.Command.{command_of};
+ghost use Rattle.vfb.specs.Making.{IsProper, Makes};
+ghost use Rattle.vfb.specs.Words.{asked};
+ghost use Rattle.vfb.specs.Work.{IsReadBy};
 ghost use Rattle.vfb.specs.Performing.{Performs};
-ghost use Rattle.vfb.specs.Outcome.{IsAnswer, WritesNothing, IsWritten, IsSaid, IsCut, Draws, HasMasters, LacksRoom, EndsBy};
+ghost use Rattle.vfb.specs.Outcome.{IsAnswer, WritesNothing, IsWritten, IsSaid, IsCut, Draws, HasWork, LacksRoom, EndsBy};
 
 use crate::ending::{Ending, say_ending};
+use crate::product::Product;
 use crate::status::Status;
-use crate::tuples::tuples;
-use crate::words::parse;
+use crate::tuples::make_tuples;
+use crate::words::{Command, parse};
+use crate::writing::write_product;
 use outside::{Outputs, Say, Sources};
+use source_files::ReadStop;
 use std::alloc::Global;
+
+/// Makes what a command asks for.
+fn make<'a, S: Sources>(
+    alloc: Global,
+    command: &Command<'a>,
+    sources: &mut S,
+) -> Result<Product<'a>, ReadStop>
+    requires { IsProper (asked command.now) }
+    ensures { Reads (S.state sources.old) (S.state sources.new) (IsReadBy (S.state sources.old).tells (S.state sources.old).files (asked command.now)) (Makes (S.state sources.old).files (asked command.now) result) result }
+{
+    match command {
+        Command::Tuples(command) => make_tuples(alloc, command, sources),
+    }
+}
 
 /// Performs the command that the words are, or ends with their usage where they are none.
 fn perform<'a, S: Sources, O: Outputs, T: Say>(
@@ -21,9 +42,12 @@ fn perform<'a, S: Sources, O: Outputs, T: Say>(
 ) -> Ending<'a>
     ensures { Performs (S.state sources.old) (S.state sources.new) (O.state outputs.old) (O.state outputs.new) (T.state say.old) (T.state say.new) (command_of (map string_bytes words.now.items)) result }
 {
-    match parse(words) {
-        Some(command) => tuples(alloc, &command, sources, outputs, say),
-        None => Ending::Usage,
+    let Some(command) = parse(words) else {
+        return Ending::Usage;
+    };
+    match make(alloc, &command, sources) {
+        Ok(product) => write_product(&product, outputs, say),
+        Err(stop) => Ending::from_stop(stop),
     }
 }
 
@@ -69,8 +93,8 @@ pub fn run<S: Sources, O: Outputs, T: Say>(
     // The headline: what the bytes written draw.
     ensures draws { (S.state sources.old).tells → (O.state outputs.old).tells → result ≡ Status.Ok → Draws (command_of (map string_bytes words.now.items)) (S.state sources.old).files (O.state outputs.new).files }
     // Nothing gives up but for memory.
-    ensures complete { (S.state sources.old).tells → HasMasters (command_of (map string_bytes words.now.items)) (S.state sources.old).files → ¬ (HasRisen (S.state sources.old).faults (S.state sources.new).faults) → ¬ (HasRisen (O.state outputs.old).faults (O.state outputs.new).faults) → ¬ (HasRisen (T.state say.old).faults (T.state say.new).faults) → EndsBy ⊥ result }
-    ensures complete_sure { (S.state sources.old).tells → (S.state sources.old).is_sure → (O.state outputs.old).tells → (O.state outputs.old).is_sure → (T.state say.old).tells → (T.state say.old).is_sure → HasMasters (command_of (map string_bytes words.now.items)) (S.state sources.old).files → EndsBy (LacksRoom (command_of (map string_bytes words.now.items)) (S.state sources.old).files (O.state outputs.old).room (T.state say.old).room (T.state say.old).said) result }
+    ensures complete { (S.state sources.old).tells → HasWork (command_of (map string_bytes words.now.items)) (S.state sources.old).files → ¬ (HasRisen (S.state sources.old).faults (S.state sources.new).faults) → ¬ (HasRisen (O.state outputs.old).faults (O.state outputs.new).faults) → ¬ (HasRisen (T.state say.old).faults (T.state say.new).faults) → EndsBy ⊥ result }
+    ensures complete_sure { (S.state sources.old).tells → (S.state sources.old).is_sure → (O.state outputs.old).tells → (O.state outputs.old).is_sure → (T.state say.old).tells → (T.state say.old).is_sure → HasWork (command_of (map string_bytes words.now.items)) (S.state sources.old).files → EndsBy (LacksRoom (command_of (map string_bytes words.now.items)) (S.state sources.old).files (O.state outputs.old).room (T.state say.old).room (T.state say.old).said) result }
 {
     let ending = perform(alloc, words, sources, outputs, say);
     // A line that can't be said changes nothing.

@@ -16,13 +16,20 @@ pub(crate) struct Placed<'a> {
     pub(crate) at: Location,
 }
 
-/// What the words of a call ask for.
+/// What the words of `tuples` ask for.
 #[derive(Drop)]
-pub(crate) struct Command<'a> {
+pub(crate) struct Tuples<'a> {
     /// The file to write.
     pub(crate) out: &'a str,
     /// The drawings, of which there may be so many.
     pub(crate) drawings: ArrayVec<Placed<'a>, 128>,
+}
+
+/// What the words of a call ask for.
+#[derive(Drop)]
+pub(crate) enum Command<'a> {
+    /// The variation data of a glyph.
+    Tuples(Tuples<'a>),
 }
 
 /// A coordinate from -1 to 1 in F2DOT14, as a whole number from -16,384 to 16,384.
@@ -113,10 +120,10 @@ pub(crate) fn parse(words: &[String]) -> Option<Command<'_>>
     ensures { option_map asked result ≡ command_of (map string_bytes words.now) }
 {
     match words {
-        [_, name, out, words @ ..] if name.as_str() == "tuples" => Some(Command {
+        [_, name, out, words @ ..] if name.as_str() == "tuples" => Some(Command::Tuples(Tuples {
             out: out.as_str(),
             drawings: drawings_named(words)?,
-        }),
+        })),
         _ => None,
     }
 }
