@@ -71,13 +71,6 @@ pub alike_step : (default : Drawing) (placed : List words.Placed) (drawings : Li
 alike_step default placed drawings i drawing below inside is alike =
     rw (add-one, drop-cons placed i unplaced below, drop-cons drawings i drawing inside, ← is, alike) refl
 
--- a drawing differs, and its file is refused for it
-pub alike_stop : (default : Drawing) (placed : List words.Placed) (drawings : List Drawing) (i : ℕ) (one : words.Placed) (drawing : Drawing) (difference : Difference)
-    → i < length placed → i < length drawings → one ≡ get_or placed i one → drawing ≡ get_or drawings i drawing → outline_difference default.outline drawing.outline ≡ Some difference
-    → all_alike default (map seen (drop i placed)) (drop i drawings) ≡ Err (difference_fault default.name one.path.now difference)
-alike_stop default placed drawings i one drawing difference below inside named is differs =
-    rw (drop-cons placed i one below, drop-cons drawings i drawing inside, ← is, ← named, differs) refl
-
 all_alike_head : (default : Drawing) (one : Placed) (drawing : Drawing) (more : List Placed) (others : List Drawing) (found : Option Difference) → outline_difference default.outline drawing.outline ≡ found
     → all_alike default (one ∷ more) (drawing ∷ others) ≡ Ok tt → (found ≡ None) × (all_alike default more others ≡ Ok tt)
 all_alike_head default one drawing more others None is passed = (refl, rw is at passed)

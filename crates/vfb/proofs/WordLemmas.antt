@@ -22,10 +22,6 @@ use Rattle.basics.specs.Optional.{◌>>=◌, each}
 abbrev pub with_front : {A : Type 0} → List A → Option (List A) → Option (List A)
 with_front front rest = rest >>= λ xs. Some (front ++ xs)
 
-pub with_front-nil : {A : Type 0} (rest : Option (List A)) → rest ≡ with_front [] rest
-with_front-nil None = refl
-with_front-nil (Some xs) = refl
-
 with_front-cons : {B : Type 0} (front : List B) (y : B) (rest : Option (List B)) → with_front front (rest >>= λ ys. Some (y ∷ ys)) ≡ with_front (front ++ (y ∷ [])) rest
 with_front-cons front y None = refl
 with_front-cons front y (Some ys) = ap Some (sym (append_assoc front (y ∷ []) ys))
@@ -34,10 +30,6 @@ with_front-cons front y (Some ys) = ap Some (sym (append_assoc front (y ∷ []) 
 pub each_of-step : {A B : Type 0} (f : A → Option B) (front : List B) (x : A) (y : B) (xs : List A) → f x ≡ Some y
     → with_front front (each f (x ∷ xs)) ≡ with_front (front ++ (y ∷ [])) (each f xs)
 each_of-step f front x y xs is = rw is (with_front-cons front y (each f xs))
-
--- an item gives nothing
-pub each_of-none : {A B : Type 0} (f : A → Option B) (front : List B) (x : A) (xs : List A) → f x ≡ None → with_front front (each f (x ∷ xs)) ≡ None
-each_of-none f front x xs is = rw is refl
 
 -- ---- a place
 
@@ -179,11 +171,6 @@ too_many : (front : List Placed) (y : Placed) (rest : Option (List Placed)) → 
     → (with_front front (rest >>= λ ys. Some (y ∷ ys)) >>= λ drawings. if nat_le (length drawings) 128 && are_on_axes drawings then Some drawings else None) ≡ None
 too_many front y None is = refl
 too_many front y (Some ys) is = rw (lt-leb (length (front ++ (y ∷ ys))) 128 (omega (arith, length-append front (y ∷ ys)))) refl
-
--- a word more than 128 drawings
-pub no_drawings : (words : List (List ℕ)) (front : List Placed) (word : List ℕ) (rest : List (List ℕ)) (placed : Placed) → AreLeft words front (word ∷ rest) → placed_of word ≡ Some placed
-    → length front ≡ 128 → drawings_named words ≡ None
-no_drawings words front word rest placed left is full = rw (left, is) (too_many front placed (each placed_of rest) full)
 
 -- the tests of the drawings behind the first are those of the words' drawings
 on_same_axes : (axes : ℕ) (drawings : List words.Placed) → list_all (λ (placed : words.Placed). nat_eq (length placed.at.items) axes) drawings ≡ list_all (λ (placed : Placed). nat_eq (length placed.at) axes) (map seen drawings)

@@ -74,7 +74,7 @@ fn refuses_deltas_of_more_than_16_bits(rt: HostRuntime) -> Result<(), Fail> {
         let (status, said, held) = outcome(alloc, &CORNERS, drawings.as_slice())?;
         assert_eq!(rt; status, 1);
         assert_eq!(rt; said.as_slice(), line.as_bytes());
-        assert!(rt; held.is_none());
+        assert_eq!(rt; held, None);
     }
     // A glyph without points: 0 - 3 * 16383, and the advance is the second phantom point.
     let mut drawings = Vec::new(alloc);
