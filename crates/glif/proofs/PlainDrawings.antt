@@ -12,7 +12,8 @@ use Rattle.glif.specs.declared.shape.Drawing.{Drawing}
 use Rattle.glif.specs.declared.shape.Point.{Point}
 use Rattle.glif.specs.declared.outline.Shapes.{Shapes}
 use Rattle.glif.specs.declared.glyph.Seen.{Seen}
-use Rattle.glif.specs.Attributes.{needed, optional}
+use Rattle.attributes.specs.Attributes.{needed, optional_whole}
+use Rattle.glif.specs.Numbers.{width, advance_widths}
 use Rattle.glif.specs.Glyphs.{shape_of, few, outline_of, nothing_seen, child_of, format_of, drawing_of}
 use Rattle.glif.specs.Limits.{IsContourWithin}
 use Rattle.glif.specs.Plain.{Number, Place, Written, number_text, value_of, printing, meaning, IsNumber, IsPlace, IsWritten, IsPlain}
@@ -84,9 +85,9 @@ seen width shapes = record { width = width; codes = []; shapes = shapes }
 abbrev advance_tree : ℕ → Number → Tree
 advance_tree at width = node (codes "advance") ((codes "width", number_text width) ∷ []) no_trees [] at
 
-advance_reads : (at : ℕ) (width : Number) → IsNumber width → pos 0 ≤ℤ value_of width → value_of width ≤ℤ pos 16383 → child_of nothing_seen (advance_tree at width) ≡ Ok (seen (Some (value_of width)) None)
-unfolding child_of optional
-advance_reads at width is low high = rw (whole_reads (pos 0) (codes "width") (advance_tree at width) width is low high) refl
+advance_reads : (at : ℕ) (n : Number) → IsNumber n → pos 0 ≤ℤ value_of n → value_of n ≤ℤ pos 16383 → child_of nothing_seen (advance_tree at n) ≡ Ok (seen (Some (value_of n)) None)
+unfolding child_of width optional_whole
+advance_reads at n is low high = rw (whole_reads advance_widths (codes "width") (advance_tree at n) n is low high) refl
 
 abbrev outline_tree : ℕ → ℕ → List (List Place) → Tree
 outline_tree at within contours = node (codes "outline") [] (trees_of (contour_trees within contours)) (own_text (contours_inside contours)) at

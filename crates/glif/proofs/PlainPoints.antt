@@ -9,7 +9,9 @@ use Rattle.markup_rules.specs.Tree.{Tree, node, no_trees, attribute_of, children
 use Rattle.markup_rules.specs.Syntax.{tag_then, children_from}
 use Rattle.basics.specs.Reading.{◌>>=◌, each}
 use Rattle.glif.specs.declared.shape.Point.{Point}
-use Rattle.glif.specs.Attributes.{number_or_fault, needed, ranged, whole, coordinate}
+use Rattle.attributes.specs.Attributes.{number_or_fault, needed, ranged, whole, whole_in}
+use Rattle.attributes.specs.declared.limits.Limits.{Limits}
+use Rattle.glif.specs.Numbers.{coordinate, coordinates}
 use Rattle.glif.specs.Contours.{point_of, points_of, type_of, is_move, is_on, ends_on, line_after_off, is_passed_over, closed, contour_of}
 use Rattle.glif.specs.Limits.{IsPointWithin, IsContourWithin}
 use Rattle.glif.specs.Plain.{Number, Place, number_text, value_of, IsNumber, IsPlace}
@@ -22,19 +24,19 @@ use Rattle.glif.proofs.PlainTexts.{point_tag, points_inside}
 int_le_true : (a b : ℤ) → a ≤ℤ b → int_le a b ≡ true
 int_le_true a b le = grind (arith, ints)
 
-ranged_within : (least : ℤ) (name : List ℕ) (tree : Tree) (n : ℤ) → least ≤ℤ n → n ≤ℤ pos 16383 → ranged least name tree n ≡ Ok n
+ranged_within : (limits : Limits) (name : List ℕ) (tree : Tree) (n : ℤ) → limits.least ≤ℤ n → n ≤ℤ limits.greatest → ranged limits name tree n ≡ Ok n
 unfolding ranged
-ranged_within least name tree n low high =
-    cond-true (int_le least n && int_le n (pos 16383)) _ _ (and_from (int_le least n) (int_le n (pos 16383)) (int_le_true least n low) (int_le_true n (pos 16383) high))
+ranged_within limits name tree n low high =
+    cond-true (int_le limits.least n && int_le n limits.greatest) _ _ (and_from (int_le limits.least n) (int_le n limits.greatest) (int_le_true limits.least n low) (int_le_true n limits.greatest high))
 
-pub whole_reads : (least : ℤ) (name : List ℕ) (tree : Tree) (n : Number) → IsNumber n → least ≤ℤ value_of n → value_of n ≤ℤ pos 16383 → whole least name tree (number_text n) ≡ Ok (value_of n)
-unfolding whole
-whole_reads least name tree n is low high =
-    ap (λ (r : Result ℤ NumberFault). number_or_fault name tree r >>= ranged least name tree) (number_reads n is) ∙ ranged_within least name tree (value_of n) low high
+pub whole_reads : (limits : Limits) (name : List ℕ) (tree : Tree) (n : Number) → IsNumber n → limits.least ≤ℤ value_of n → value_of n ≤ℤ limits.greatest → whole_in limits name tree (number_text n) ≡ Ok (value_of n)
+unfolding whole_in
+whole_reads limits name tree n is low high =
+    ap (λ (r : Result ℤ NumberFault). number_or_fault name tree r >>= ranged limits name tree) (number_reads n is) ∙ ranged_within limits name tree (value_of n) low high
 
 coordinate_reads : (name : List ℕ) (tree : Tree) (n : Number) → IsNumber n → attribute_of name tree ≡ Some (number_text n) → negsuc 16383 ≤ℤ value_of n → value_of n ≤ℤ pos 16383 → coordinate name tree ≡ Ok (value_of n)
-unfolding coordinate needed
-coordinate_reads name tree n is found low high = rw found (whole_reads (negsuc 16383) name tree n is low high)
+unfolding coordinate whole needed
+coordinate_reads name tree n is found low high = rw found (whole_reads coordinates name tree n is low high)
 
 -- ---- one point
 

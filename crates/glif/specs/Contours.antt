@@ -8,7 +8,8 @@ use Rattle.basics.specs.declared.fault.Spot.{Spot}
 use Rattle.glif.specs.declared.shape.Point.{Point}
 use Rattle.glif.specs.declared.contour.PointType.{PointType}
 use Rattle.glif.specs.declared.contour.PointType.TheVariants.{Off, Line, Quadratic, Cubic, Move, Unknown}
-use Rattle.glif.specs.Attributes.{coordinate, fault}
+use Rattle.attributes.specs.Attributes.{fault}
+use Rattle.glif.specs.Numbers.{coordinate}
 
 -- ---- points
 

@@ -1,9 +1,9 @@
-pub mod Attributes
 pub mod Components
 pub mod Contours
 pub mod FirstOutside
 pub mod Glyphs
 pub mod Limits
+pub mod Numbers
 pub mod Plain
 pub mod Shapes
 pub mod Texts

@@ -6,9 +6,9 @@ ghost use Rattle.basics.specs.Reading.{Gives};
 ghost use Rattle.markup.specs.Plain.{plain};
 ghost use Rattle.glif.specs.Glyphs.{code_of, is_code, is_hexadecimal, with_code};
 
-use crate::attributes::fault;
-use markup::Element;
+use attributes::fault;
 use basics::{Kind, NoMemory, Seq, Stop};
+use markup::Element;
 use std::alloc::Global;
 use std::collections::BTreeSet;
 use std::marker::Model;

@@ -4,11 +4,12 @@ ghost use Rattle.markup.specs.Plain.{plain};
 ghost use Rattle.markup_rules.specs.Tree.{is_named};
 ghost use Rattle.glif.specs.Contours.{closed, contour_of, ends_on, is_line, is_move, is_passed_over, line_after_off, lined, on_by, point_of, points_of, starts_with_move, type_of};
 
-use crate::attributes::{coordinate, fault};
 use crate::limits::CONTOUR_POINTS;
+use crate::numbers::coordinate;
 use crate::shape::Point;
-use markup::Element;
+use attributes::fault;
 use basics::{Kind, Seq, Stop, stop_at};
+use markup::Element;
 use std::alloc::Global;
 
 /// What a point is to its contour, by its attribute `type` (UFO 3, "GLIF", "point").
@@ -111,11 +112,9 @@ fn read_points(alloc: Global, elements: &[Element]) -> Result<Seq<Point>, Stop>
     let [first, later @ ..] = elements else {
         return Ok(points);
     };
-    let point = read_point(alloc, true, first)?;
-    points.push(point)?;
+    points.push(read_point(alloc, true, first)?)?;
     for element in later {
-        let point = read_point(alloc, false, element)?;
-        points.push(point)?;
+        points.push(read_point(alloc, false, element)?)?;
     }
     Ok(points)
 }
@@ -187,8 +186,7 @@ fn closed(alloc: Global, contour: &Element, points: Seq<Point>) -> Result<Seq<Po
     }
     let is_on = ends_on(points.as_slice());
     let place = line_after_off(is_on, contour.children(), points.as_slice());
-    let points = lined(alloc, points, place)?;
-    Ok(points)
+    lined(alloc, points, place)
 }
 
 /// Whether a contour of these elements is passed over: without points, or with a single one of the type `move`.
@@ -219,6 +217,5 @@ pub(crate) fn read_contour(alloc: Global, contour: &Element) -> Result<Option<Se
         return Ok(None);
     }
     let points = read_points(alloc, contour.children())?;
-    let points = closed(alloc, contour, points)?;
-    Ok(Some(points))
+    Ok(Some(closed(alloc, contour, points)?))
 }

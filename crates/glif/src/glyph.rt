@@ -6,13 +6,14 @@ ghost use Rattle.glif.specs.Glyphs.{advance_seen, child_of, drawing_of, drawn, f
 ghost use Rattle.glif.specs.Limits.{IsOffsetWithin, IsWithinLimits};
 ghost use Rattle.glif.specs.declared.shape.Drawing.{Drawing};
 
-use crate::attributes::{fault, needed, optional};
 use crate::code::{Codes, read_code};
+use crate::numbers::width;
 use crate::outline::{Shapes, read_outline};
 use crate::shape::{Drawing, Outline};
+use attributes::{fault, needed};
+use basics::{Kind, Name, Stop, stop_at};
 use fixpoint::parse_whole;
 use markup::Element;
-use basics::{Kind, Name, Stop, stop_at};
 use std::alloc::Global;
 
 /// What the elements of a `glyph` have given so far.
@@ -44,8 +45,7 @@ fn read_advance(alloc: Global, mut seen: Seen, advance: &Element) -> Result<Seen
     ensures { Gives (λ seen. seen) result (advance_seen (plain advance.now) seen seen.width) }
 {
     if seen.width.is_none() {
-        let width = optional(alloc, 0, "width", advance)?;
-        seen.width = Some(width);
+        seen.width = Some(width(alloc, advance)?);
     }
     Ok(seen)
 }
@@ -57,8 +57,7 @@ fn read_shapes(alloc: Global, mut seen: Seen, outline: &Element) -> Result<Seen,
     if seen.shapes.is_some() {
         return Err(fault(alloc, Kind::NotGlif, outline));
     }
-    let shapes = read_outline(alloc, outline)?;
-    seen.shapes = Some(shapes);
+    seen.shapes = Some(read_outline(alloc, outline)?);
     Ok(seen)
 }
 
@@ -68,18 +67,15 @@ fn read_child(alloc: Global, seen: Seen, element: &Element) -> Result<Seen, Stop
     ensures { Gives (λ seen. seen) result (child_of seen (plain element.now)) }
 {
     if element.is_named("advance") {
-        let seen = read_advance(alloc, seen, element)?;
-        Ok(seen)
+        read_advance(alloc, seen, element)
     } else if element.is_named("unicode") {
         let code = read_code(alloc, element)?;
-        let seen = Seen {
+        Ok(Seen {
             codes: seen.codes.with(code)?,
             ..seen
-        };
-        Ok(seen)
+        })
     } else if element.is_named("outline") {
-        let seen = read_shapes(alloc, seen, element)?;
-        Ok(seen)
+        read_shapes(alloc, seen, element)
     } else {
         Ok(seen)
     }
@@ -222,6 +218,5 @@ pub fn read(alloc: Global, tree: &Element) -> Result<Drawing, Stop>
     ensures limits { IfOk result (λ drawing. IsWithinLimits drawing.outline) }
     ensures offsets { IfOk result (λ (drawing : Drawing). All IsOffsetWithin drawing.components) }
 {
-    let drawing = read_drawing(alloc, tree)?;
-    Ok(drawing)
+    read_drawing(alloc, tree)
 }

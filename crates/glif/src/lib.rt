@@ -1,13 +1,13 @@
 //! Drawings of glyphs, and their reading from GLIF, the glyph format of UFO 3.
 #![tactic(auto)]
 
-mod attributes;
 mod code;
 mod component;
 mod contour;
 mod glyph;
 mod laws;
 mod limits;
+mod numbers;
 mod outline;
 mod plain;
 mod shape;
