@@ -63,6 +63,18 @@ pub record IsStep (graph : List (List ℕ)) (nodes : List Node) (path : List ℕ
   pub seen : StaySeen nodes new_nodes
   pub fewer : steps_left new_nodes new_path + 1 ≡ steps_left nodes path
 
+-- What holds at each step of a walk that goes on past cycles.
+pub record IsTour (graph : List (List ℕ)) (nodes : List Node) (path order : List ℕ) : Type 0 where
+  pub sizes : length nodes ≡ length graph
+  pub within : All (λ number. number < length graph) path
+  pub left : (number : ℕ) → number < length graph → left_at nodes number ≤ length (bases_at graph number)
+  pub known : All (λ number. number < length graph) order
+
+-- a step of such a walk: it stays one, and has less to do
+pub record IsTourStep (graph : List (List ℕ)) (nodes : List Node) (path : List ℕ) (new_nodes : List Node) (new_path new_order : List ℕ) : Type 0 where
+  pub tour : IsTour graph new_nodes new_path new_order
+  pub fewer : steps_left new_nodes new_path < steps_left nodes path
+
 -- a walk from a root through all that it reaches: it ends at rest, and the root is reached
 pub record IsVisit (graph : List (List ℕ)) (nodes : List Node) (root : ℕ) (new_nodes : List Node) (new_path new_order : List ℕ) : Type 0 where
   pub walk : IsWalk graph new_nodes new_path new_order

@@ -4,8 +4,8 @@ ghost use Rattle.std.specs.Prelude.{◌≡◌, ◌++◌, length, map, All, IfOk,
 ghost use Rattle.compat.specs.Flattened.{moved, moved_contours, shown_count};
 ghost use Rattle.compat.specs.Flats.{CanMove, flat_at, flat_contours, flat_count, joint_count, placed_contours, AreMovable, joined_flat, IsFew};
 
-use glif::{Component, Drawing, Point};
 use basics::{NoMemory, Seq};
+use glif::{Component, Drawing, Point};
 use std::alloc::Global;
 
 /// The most points of a glyph.

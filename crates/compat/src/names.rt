@@ -4,8 +4,8 @@ ghost use Rattle.std.specs.Prelude.{◌≡◌, ℕ, List, None, IfOk, MatchResul
 ghost use Rattle.compat.specs.Names.{number_in, number_of, base_numbers, references, dangling_in, first_dangling};
 
 use crate::refusal::Refusal;
-use glif::Drawing;
 use basics::{Kind, Name, NoMemory, Seq};
+use glif::Drawing;
 use std::alloc::Global;
 use std::collections::HashMap;
 

@@ -12,8 +12,8 @@ use crate::flat::{Flat, joined};
 use crate::names::references;
 use crate::order::order_of;
 use crate::refusal::Refusal;
-use glif::{Drawing, Outline, Point, coordinate_outside};
 use basics::{Kind, NoMemory, Seq, Spot, Stop};
+use glif::{Drawing, Outline, Point, coordinate_outside};
 use std::alloc::Global;
 
 /// As many places as there are drawings, with nothing made yet.
