@@ -7,5 +7,6 @@ mod Marking
 mod Named
 mod Spreading
 mod Steps
+mod Stopping
 mod Tours
 mod Unique

@@ -3,12 +3,14 @@ use Rattle.std.proofs.Common.{◌≡◌, ◌<◌, ℕ, ◌+◌, Bool, true, fals
 use Rattle.std.specs.Prelude.{is_none}
 use Rattle.std.specs.List.{position_from, filter_map}
 use Rattle.std.specs.Map.{update}
+use Rattle.std.specs.Option.{option_map}
 use Rattle.std.specs.Str.{bytes_eq}
 use Rattle.std.proofs.lemmas.List.{at_drop_more, map_more}
 use Rattle.std.proofs.lemmas.List.Elements.{filter_map-append}
 use Rattle.std.proofs.lemmas.Grind.{common_steps}
 use Rattle.glif.specs.declared.shape.Component.{Component}
 use Rattle.glif.specs.declared.shape.Drawing.{Drawing}
+use Rattle.compat.specs.declared.refusal.Refusal.{Refusal}
 use Rattle.compat.specs.Names.{base_numbers, dangling_in, dangling_refusal, dangling_from}
 
 take_more : {X : Type 0} (xs : List X) (i : ℕ) (d : X) → i < length xs → take (i + 1) xs ≡ take i xs ++ get_or xs i d ∷ []
@@ -67,6 +69,11 @@ pub dangling_here : (number : List ℕ → Option ℕ) (drawings : List Drawing)
     → dangling_from number i (drop i drawings) ≡ Some (dangling_refusal i place)
 dangling_here number drawings i place drawing less is found =
     at_drop_more (dangling_from number i) drawings i drawing less ∙ rw (← is, found) refl
+
+pub refused_here : (number : List ℕ → Option ℕ) (drawings : List Drawing) (i : ℕ) (drawing : Drawing) (refusal : Refusal) (found : Option ℕ) → i < length drawings → drawing ≡ get_or drawings i drawing → dangling_in number drawing ≡ found
+    → option_map (dangling_refusal i) found ≡ Some refusal → dangling_from number i (drop i drawings) ≡ Some refusal
+refused_here number drawings i drawing refusal None less is found none = cc
+refused_here number drawings i drawing refusal (Some place) less is found some = dangling_here number drawings i place drawing less is found ∙ some
 
 pub dangling_later : (number : List ℕ → Option ℕ) (drawings : List Drawing) (i : ℕ) (drawing : Drawing) → i < length drawings → drawing ≡ get_or drawings i drawing → dangling_in number drawing ≡ None
     → dangling_from number i (drop i drawings) ≡ dangling_from number (i + 1) (drop (i + 1) drawings)
