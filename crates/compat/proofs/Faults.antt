@@ -55,12 +55,12 @@ flat_fault_many contours is = rw is refl
 
 has_fault : (drawings : List Drawing) (bound : ℕ) (drawing : Drawing) (flat : Flat) → IsFlatOf drawings bound drawing flat → HasFlatFault drawings drawing (kept_fault flat)
 has_fault drawings bound drawing Unknown kept = absurd kept
-has_fault drawings bound drawing (Few contours) kept = record { contours = contours; flattened = kept.0; is = flat_fault_few contours _ refl (le-leb _ _ kept.1) }
+has_fault drawings bound drawing (Few contours points) kept = record { contours = contours; flattened = kept.0; is = flat_fault_few contours _ refl (le-leb _ _ kept.1) }
 has_fault drawings bound drawing (Many count) kept = record { contours = kept.0; flattened = kept.1; is = flat_fault_many kept.0 (lt-leb _ _ kept.2) ∙ ap (λ n. Some (TooManyPoints, pos n)) (sym kept.3) }
 
 is_counted : (drawings : List Drawing) (bound : ℕ) (drawing : Drawing) (flat : Flat) → IsFlatOf drawings bound drawing flat → IsCounted flat
 is_counted drawings bound drawing Unknown kept = absurd kept
-is_counted drawings bound drawing (Few contours) kept = tt
+is_counted drawings bound drawing (Few contours points) kept = tt
 is_counted drawings bound drawing (Many count) kept = let c = kept.3 in omega (arith, c)
 
 pub all_counted : (drawings : List Drawing) (flats : List Flat) → AreKept drawings flats → All IsCounted flats
@@ -143,7 +143,7 @@ first_refusal drawings flats refusal kept none acyclic some =
 
 few_of : (drawings : List Drawing) (bound : ℕ) (drawing : Drawing) (flat : Flat) → IsFlatOf drawings bound drawing flat → kept_fault flat ≡ None → IsFew flat
 few_of drawings bound drawing Unknown kept none = absurd kept
-few_of drawings bound drawing (Few contours) kept none = tt
+few_of drawings bound drawing (Few contours points) kept none = tt
 few_of drawings bound drawing (Many count) kept none = cc
 
 pub all_few : (drawings : List Drawing) (flats : List Flat) → AreKept drawings flats → fault_from 0 flats ≡ None → All IsFew flats
@@ -154,7 +154,7 @@ all_few drawings flats kept none =
 
 flat_outline : (drawings : List Drawing) (bound : ℕ) (drawing : Drawing) (flat : Flat) → IsFlatOf drawings bound drawing flat → kept_fault flat ≡ None → IsFlatOutline drawings drawing (record { advance = drawing.outline.advance; contours = flat_contours flat })
 flat_outline drawings bound drawing Unknown kept none = absurd kept
-flat_outline drawings bound drawing (Few contours) kept none = record { advance = refl; flattened = kept.0; within = flat_fault_few contours _ refl (le-leb _ _ kept.1) ∙ none }
+flat_outline drawings bound drawing (Few contours points) kept none = record { advance = refl; flattened = kept.0; within = flat_fault_few contours _ refl (le-leb _ _ kept.1) ∙ none }
 flat_outline drawings bound drawing (Many count) kept none = cc
 
 zip_outlines : (all : List Drawing) (bound : ℕ) (drawings : List Drawing) (flats : List Flat) → length flats ≡ length drawings

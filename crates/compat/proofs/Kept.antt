@@ -111,13 +111,13 @@ record IsBase (drawings : List Drawing) (bound : ℕ) (component : Component) (b
 
 one_base : (drawings : List Drawing) (bound : ℕ) (component : Component) (base : Drawing) → IsOffsetWithin component → (flat : Flat) → IsFlatOf drawings bound base flat → IsBase drawings bound component base flat
 one_base drawings bound component base offset Unknown kept = absurd kept
-one_base drawings bound component base offset (Few contours) kept =
+one_base drawings bound component base offset (Few contours points) kept =
     let moved_sum = sum_moved component (base.outline.contours ++ kept.0.below) in
     let whole = ap (sum_by length) kept.0.whole in
     record {
       below = kept.0.below;
       placed_below = kept.0.placed_below;
-      count = omega (arith, moved_sum, whole);
+      count = omega (arith, moved_sum, whole, kept.3);
       few = λ small. (ap (moved_contours component) (sym kept.0.whole), subst (λ c. AreNear (bound + 1) (moved_contours component c)) kept.0.whole (all_near_moved component bound offset contours kept.2));
     }
 one_base drawings bound component base offset (Many points) kept =
@@ -170,7 +170,7 @@ placing drawings flats bound (component ∷ components) (number ∷ bases) named
 
 joined_by : (drawings : List Drawing) (flats : List Flat) (bound : ℕ) (drawing : Drawing) (bases : List ℕ) → IsPlacing drawings flats bound drawing.components bases → AreNear 1 drawing.outline.contours
     → (test : Bool) → nat_le (joint_count flats drawing.outline.contours bases) 4000 ≡ test
-    → IsFlatOf drawings (bound + 1) drawing (cond test (Few (drawing.outline.contours ++ placed_contours flats drawing.components bases)) (Many (joint_count flats drawing.outline.contours bases)))
+    → IsFlatOf drawings (bound + 1) drawing (cond test (Few (drawing.outline.contours ++ placed_contours flats drawing.components bases) (joint_count flats drawing.outline.contours bases)) (Many (joint_count flats drawing.outline.contours bases)))
 joined_by drawings flats bound drawing bases placing own true is =
     let small = leb-true (joint_count flats drawing.outline.contours bases) 4000 is in
     let few = placing.few (omega (arith, small)) in
@@ -179,6 +179,7 @@ joined_by drawings flats bound drawing bases placing own true is =
       record { below = placing.contours; placed_below = placing.placed_all; whole = whole },
       omega (arith, small, sums, placing.count),
       subst (AreNear (bound + 1)) (sym whole) (All-append (All (IsPointNear (bound + 1))) drawing.outline.contours placing.contours (all_nearer 1 (bound + 1) (omega arith) drawing.outline.contours own) few.1),
+      omega (arith, small, sums, placing.count),
     )
 joined_by drawings flats bound drawing bases placing own false is =
     let large = leb-false (joint_count flats drawing.outline.contours bases) 4000 is in
@@ -198,7 +199,7 @@ kept_joined drawings flats bound drawing bases named offsets within kept =
 
 flat_can_move : (drawings : List Drawing) (bound : ℕ) (component : Component) (base : Drawing) → bound ≤ 32510 → IsOffsetWithin component → (flat : Flat) → IsFlatOf drawings bound base flat → All (All (CanMove component)) (flat_contours flat)
 flat_can_move drawings bound component base few offset Unknown kept = absurd kept
-flat_can_move drawings bound component base few offset (Few contours) kept = all_can_move component bound few offset contours kept.2
+flat_can_move drawings bound component base few offset (Few contours points) kept = all_can_move component bound few offset contours kept.2
 flat_can_move drawings bound component base few offset (Many points) kept = All-nil (All (CanMove component))
 
 pub all_movable : (drawings : List Drawing) (flats : List Flat) (bound : ℕ) (components : List Component) (bases : List ℕ) → bound ≤ 32510 → AllZip (IsBaseOf drawings) components bases → All IsOffsetWithin components

@@ -80,7 +80,7 @@ bases_kept drawings graph order flats place is less kept =
 
 later : (drawings : List Drawing) (low high : ℕ) (drawing : Drawing) → low ≤ high → (flat : Flat) → IsFlatOf drawings low drawing flat → IsFlatOf drawings high drawing flat
 later drawings low high drawing less Unknown kept = absurd kept
-later drawings low high drawing less (Few contours) kept = (kept.0, kept.1, all_nearer low high less contours kept.2)
+later drawings low high drawing less (Few contours points) kept = (kept.0, kept.1, all_nearer low high less contours kept.2, kept.3)
 later drawings low high drawing less (Many count) kept = kept
 
 pub made_more : (drawings : List Drawing) (order : List ℕ) (flats : List Flat) (place number : ℕ) (flat : Flat) → AreFit drawings → first_dangling drawings ≡ None → number ≡ slice_index order place → number < length drawings → length flats ≡ length drawings

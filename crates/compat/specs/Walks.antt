@@ -34,14 +34,14 @@ pub record IsWalk (graph : List (List ℕ)) (nodes : List Node) (path order : Li
   pub sizes : length nodes ≡ length graph
   pub within : All (λ number. number < length graph) path
   pub reached : All (λ number. newness (mark_at nodes number) ≡ 0) path
-  pub chain : (place : ℕ) → place + 1 < length path → Contains (bases_at graph (slice_index path place)) (slice_index path (place + 1))
+  pub chain : (index : ℕ) → index + 1 < length path → Contains (bases_at graph (slice_index path index)) (slice_index path (index + 1))
   pub opened : (number : ℕ) → number < length graph → mark_at nodes number ≡ Open → Contains path number
   pub left : (number : ℕ) → number < length graph → left_at nodes number ≤ length (bases_at graph number)
-  pub looked : (number place : ℕ) → number < length graph → left_at nodes number ≤ place → place < length (bases_at graph number)
-      → mark_at nodes (slice_index (bases_at graph number) place) ≡ Done
+  pub looked : (number index : ℕ) → number < length graph → left_at nodes number ≤ index → index < length (bases_at graph number)
+      → mark_at nodes (slice_index (bases_at graph number) index) ≡ Done
   pub done : (number : ℕ) → number < length graph → mark_at nodes number ≡ Done → Contains order number
   pub known : All (λ number. number < length graph) order
-  pub before : (place : ℕ) → place < length order → All (Contains (take place order)) (bases_at graph (slice_index order place))
+  pub before : (index : ℕ) → index < length order → All (Contains (take index order)) (bases_at graph (slice_index order index))
   pub count : length order + (length path + count_new nodes) ≡ length graph
 
 -- what was reached stays so

@@ -1,4 +1,4 @@
-//! An order in which everything stands behind all to which it refers.
+//! An order in which everything stands after all to which it refers.
 
 ghost use Rattle.std.specs.Prelude.{◌≡◌, ℕ, ◌+◌, ◌++◌, ◌∷◌, ◌-◌, ◌<◌, ◌≤◌, List, [], length, All, IfOk, OnOk, MatchOption, slice_index, slice_get, slice_set, Some, Contains};
 ghost use Rattle.std.specs.Bool.{MatchBool};
@@ -28,7 +28,7 @@ struct Node {
     left: usize,
 }
 
-/// A walk through all references, depth first, with a path in place of the stack.
+/// A walk through all references, depth first, with a path instead of the stack.
 #[derive(Drop)]
 struct Walk {
     nodes: Vec<Node>,
@@ -213,7 +213,7 @@ impl Walk {
     }
 }
 
-/// An order in which everything stands behind all to which it refers, or None exactly where something reaches
+/// An order in which everything stands after all to which it refers, or None exactly where something reaches
 /// itself. `graph` has for each the numbers of those to which it refers, all of them below its length.
 ///
 /// It takes one step for each reference and two for each number, and uses no stack.

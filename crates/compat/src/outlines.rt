@@ -17,7 +17,7 @@ use basics::{Kind, NoMemory, Seq, Spot, Stop};
 use glif::{Drawing, Outline, Point, coordinate_outside};
 use std::alloc::Global;
 
-/// As many places as there are drawings, with nothing made yet.
+/// What is kept of each drawing before anything is made.
 fn unknown(alloc: Global, drawings: &[Drawing]) -> Result<Vec<Flat>, NoMemory>
     ensures { IfOk result (λ flats. length flats.items ≡ length drawings.now) }
 {
@@ -87,7 +87,7 @@ fn fault_of(flat: &Flat) -> Option<(Kind, i64)>
 {
     match flat {
         Flat::Unknown => None,
-        Flat::Few(contours) => Some((Kind::CoordinateRange, coordinate_in(contours.as_slice())?)),
+        Flat::Few(contours, _) => Some((Kind::CoordinateRange, coordinate_in(contours.as_slice())?)),
         Flat::Many(count) => Some((Kind::TooManyPoints, *count as i64)),
     }
 }
@@ -196,7 +196,7 @@ fn stop_of(alloc: Global, drawings: &[Drawing], refusal: Refusal) -> Stop
     }
 }
 
-/// The flattened outline of each drawing of one source: its own contours, and behind them, component by component,
+/// The flattened outline of each drawing of one source: its own contours, and after them, component by component,
 /// the flattened outline of the base, moved by the component's offset (UFO 3, "GLIF", "component"). The advance
 /// width is the drawing's own. A base is the drawing of that name, the first where there are more.
 ///

@@ -335,7 +335,7 @@ fn counts(rt: HostRuntime) -> Result<(), Fail> {
     Ok(())
 }
 
-/// Drawings of which each has the one behind it as a component, moved to the right by a step; the last has one
+/// Drawings of which each has the one after it as a component, moved to the right by a step; the last has one
 /// point.
 fn chain(alloc: Global, last: u32, step: i32) -> Result<Seq<Drawing>, NoMemory> {
     let mut drawings = Seq::new(alloc);
@@ -360,7 +360,7 @@ fn long_chains(rt: HostRuntime) -> Result<(), Fail> {
     Ok(())
 }
 
-/// Drawings of which each has ten components of the one behind it, and the last of the one of the number `back`.
+/// Drawings of which each has ten components of the one after it, and the last of the one of the number `back`.
 fn ring(alloc: Global, last: u32, back: u32) -> Result<Seq<Drawing>, NoMemory> {
     let mut drawings = Seq::new(alloc);
     for number in 0..=last {

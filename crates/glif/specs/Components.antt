@@ -12,8 +12,8 @@ use Rattle.glif.specs.Numbers.{offset}
 abbrev pub unscaled : ℤ → Tree → ℤ → Result (Unit {0}) Spot
 unscaled wanted tree n = if int_le wanted n && int_le n wanted then Ok tt else fault ScaledComponent tree
 
--- An attribute of the matrix is absent, or as a number with 16 binary places the one that neither scales nor
--- turns; its raw number is wanted.
+-- An attribute of the matrix is absent, or its number, rounded to 16 binary places, the one that neither scales nor
+-- turns; wanted is its raw number.
 unfoldable pub scale : ℤ → List ℕ → Tree → Result (Unit {0}) Spot
 scale wanted name tree = optional_decimal name tree >>= λ found. unscaled wanted tree (unwrap_or found wanted)
 

@@ -65,7 +65,7 @@ code_by tree (Some text) = if is_hexadecimal text && is_code (digits_value 16 te
 unfoldable pub code_of : Tree → Result ℕ Spot
 code_of tree = code_by tree (attribute_of (codes "hex") tree)
 
--- a code point that stands twice is kept once, at its first place
+-- a code point that stands twice is kept once, where it stands first
 abbrev pub with_code : List ℕ → ℕ → List ℕ
 with_code points code = if list_any (λ other. other == code) points then points else points ++ code ∷ []
 

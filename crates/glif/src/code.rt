@@ -46,7 +46,7 @@ impl Codes {
         }
     }
 
-    /// The code points with one more behind them, unless it is among them.
+    /// The code points with one more after them, unless it is among them.
     pub(crate) fn with(self, code: u32) -> Result<Codes, NoMemory>
         ensures { IfOk result (λ codes. codes ≡ with_code self code) }
     {

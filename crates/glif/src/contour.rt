@@ -108,15 +108,15 @@ fn read_point(alloc: Global, is_first: bool, element: &Element) -> Result<Point,
 fn read_points(alloc: Global, elements: &[Element]) -> Result<Seq<Point>, Stop>
     ensures { Gives (λ points. points) result (points_of (map plain elements.now)) }
 {
-    let mut points = Seq::new(alloc);
     let [first, later @ ..] = elements else {
-        return Ok(points);
+        return Ok(Seq::new(alloc));
     };
+    let mut points = Vec::with_capacity(alloc, elements.len())?;
     points.push(read_point(alloc, true, first)?)?;
     for element in later {
         points.push(read_point(alloc, false, element)?)?;
     }
-    Ok(points)
+    Ok(Seq::from_vec(points))
 }
 
 /// Whether the first point is of the type `move`.
@@ -129,7 +129,7 @@ fn starts_with_move(elements: &[Element]) -> bool
     }
 }
 
-/// Whether the last point is on the curve, behind which the first one follows.
+/// Whether the last point is on the curve, after which the first one follows.
 fn ends_on(points: &[Point]) -> bool
     ensures { result ≡ ends_on points.now }
 {
@@ -139,7 +139,7 @@ fn ends_on(points: &[Point]) -> bool
     }
 }
 
-/// The place of the first line that comes from a point off the curve, where `is_on` tells whether the point
+/// The offset of the first line that comes from a point off the curve, where `is_on` tells whether the point
 /// before is on it.
 fn line_after_off(is_on: bool, elements: &[Element], points: &[Point]) -> Option<u64>
     ensures { result ≡ line_after_off is_on (map plain elements.now) points.now }
@@ -147,7 +147,7 @@ fn line_after_off(is_on: bool, elements: &[Element], points: &[Point]) -> Option
     let mut is_on = is_on;
     for (index, element) in elements.iter().enumerate() {
         let point = points.get(index)?;
-        if is_line(element) && !is_on {
+        if !is_on && is_line(element) {
             return Some(element.place());
         }
         is_on = point.on;
@@ -156,10 +156,10 @@ fn line_after_off(is_on: bool, elements: &[Element], points: &[Point]) -> Option
 }
 
 /// The points, where no line begins off the curve.
-fn lined(alloc: Global, points: Seq<Point>, place: Option<u64>) -> Result<Seq<Point>, Stop>
-    ensures { Gives (λ points. points) result (lined points place) }
+fn lined(alloc: Global, points: Seq<Point>, offset: Option<u64>) -> Result<Seq<Point>, Stop>
+    ensures { Gives (λ points. points) result (lined points offset) }
 {
-    match place {
+    match offset {
         None => Ok(points),
         Some(at) => Err(stop_at(alloc, Kind::LineAfterOff, "", at, 0)),
     }
@@ -185,8 +185,8 @@ fn closed(alloc: Global, contour: &Element, points: Seq<Point>) -> Result<Seq<Po
         return Err(fault(alloc, Kind::OpenContour, contour));
     }
     let is_on = ends_on(points.as_slice());
-    let place = line_after_off(is_on, contour.children(), points.as_slice());
-    lined(alloc, points, place)
+    let offset = line_after_off(is_on, contour.children(), points.as_slice());
+    lined(alloc, points, offset)
 }
 
 /// Whether a contour of these elements is passed over: without points, or with a single one of the type `move`.

@@ -171,7 +171,7 @@ fn read_drawing(alloc: Global, tree: &Element) -> Result<Drawing, Stop>
 ///
 /// Of the root `glyph` its `name` is read; of its elements the `width` of the first `advance`, which is 0
 /// where either is absent, the `hex` of each `unicode`, and the one `outline`. A code point that stands twice is
-/// kept once, at its first place. Of the outline each `contour` and each `component` are read, in their order;
+/// kept once, where it stands first. Of the outline each `contour` and each `component` are read, in their order;
 /// an outline may be absent.
 ///
 /// Numbers are in font units. An advance width is 0 to 16,383; a coordinate, or an offset of a component, is
@@ -204,12 +204,12 @@ fn read_drawing(alloc: Global, tree: &Element) -> Result<Drawing, Stop>
 /// 4. the elements of a contour in their order: NotGlif at one that is no `point`; MissingAttribute of the item
 ///    `x`, the number `x`, and the same of `y`; then the type: Curve where it is `curve`, NotGlif where it is
 ///    `move` and the point isn't the first, or another text;
-/// 5. behind its points the contour: TooManyPoints where there are more than 1,024, with their number as `first`;
-///    OpenContour where the first point is a `move`; LineAfterOff at the first `line` that stands behind a point
+/// 5. after its points the contour: TooManyPoints where there are more than 1,024, with their number as `first`;
+///    OpenContour where the first point is a `move`; LineAfterOff at the first `line` that comes after a point
 ///    off the curve, where the last point stands before the first;
 /// 6. a component: MissingAttribute of the item `base`; `xScale`, `yScale`, `xyScale` and `yxScale`, each the number
 ///    and then ScaledComponent where it has another value; the numbers `xOffset` and `yOffset`;
-/// 7. behind its elements the outline: TooManyPoints where its contours have more than 4,000 in all, with their
+/// 7. after its elements the outline: TooManyPoints where its contours have more than 4,000 in all, with their
 ///    number as `first`.
 pub fn read(alloc: Global, tree: &Element) -> Result<Drawing, Stop>
     // Which drawing it is, and which fault.

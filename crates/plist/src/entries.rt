@@ -18,10 +18,9 @@ pub(crate) fn first_of_each(
     for entry in entries {
         let key = entry.0.try_copy(alloc)?;
         let is_new = keys.insert(key)?;
-        if !is_new {
-            continue;
+        if is_new {
+            kept.push(entry)?;
         }
-        kept.push(entry)?;
     }
     Ok(kept)
 }

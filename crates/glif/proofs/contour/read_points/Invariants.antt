@@ -6,4 +6,4 @@ use Rattle.glif.proofs.contour.read_points.Given as goal
 
 abbrev pub invariant-loop-element : goal.invariant-loop-element
 invariant-loop-element l =
-    with_front l.points (each (point_of false) (map plain (drop l.element-index l.later))) ≡ points_of (map plain l.elements)
+    with_front l.points.items (each (point_of false) (map plain (drop l.element-index l.later))) ≡ points_of (map plain l.elements)
