@@ -18,9 +18,10 @@ pub(crate) fn first_of_each(
     for entry in entries {
         let key = entry.0.try_copy(alloc)?;
         let is_new = keys.insert(key)?;
-        if is_new {
-            kept.push(entry)?;
+        if !is_new {
+            continue;
         }
+        kept.push(entry)?;
     }
     Ok(kept)
 }
