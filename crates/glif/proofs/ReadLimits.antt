@@ -1,13 +1,12 @@
 -- What is read off a tree is within limits.
-use Rattle.std.proofs.Common.{◌≡◌, ℕ, ◌≤◌, ℤ, pos, negsuc, ◌≤ℤ◌, int_le, Bool, true, false, ◌&&◌, List, [], ◌∷◌, length, filter, codes, Option, Some, None, Ok, Err, refl, subst, arith, if◌then◌else◌}
+use Rattle.std.proofs.Common.{◌≡◌, ℕ, ◌≤◌, ℤ, pos, Bool, true, false, List, [], ◌∷◌, length, filter, codes, Option, Some, None, Ok, subst, arith}
 use Rattle.std.specs.Prelude.{All, IfOk, MatchOption, Result, sum_by, nat_le, unwrap_or}
-use Rattle.std.proofs.lemmas.Grind.{common_steps}
 use Rattle.std.proofs.lemmas.Int.{ints}
 use Rattle.std.proofs.lemmas.Bool.Decides.{nat_tests}
 use Rattle.std.proofs.lemmas.List.Elements.{All-nil, All-cons, All-append}
-use Rattle.basics.specs.Reading.{◌>>=◌, each, in_turn}
+use Rattle.basics.specs.Reading.{each, in_turn}
 use Rattle.basics.specs.declared.fault.Spot.{Spot}
-use Rattle.markup_rules.specs.Tree.{Tree, attribute_of, children_of, is_named}
+use Rattle.markup_rules.specs.Tree.{Tree, children_of, is_named}
 use Rattle.glif.specs.declared.shape.Component.{Component}
 use Rattle.glif.specs.declared.shape.Drawing.{Drawing}
 use Rattle.glif.specs.declared.shape.Point.{Point}

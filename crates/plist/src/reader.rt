@@ -13,8 +13,8 @@ ghost use Rattle.plist.specs.Values.{PlainValue, plain_entry, plain_value};
 use crate::entries::first_of_each;
 use crate::form::{Form, form_of};
 use crate::value::Value;
-use markup::Element;
 use basics::{Kind, Name, Stop, stop_at};
+use markup::Element;
 use std::alloc::Global;
 
 /// The stop at an element that may not stand where it is, or that lacks a child.

@@ -217,7 +217,11 @@ fn finds_faults(rt: HostRuntime) -> Result<(), Fail> {
     for name in ["string", "integer", "real", "true", "false", "date", "data"] {
         let text = format!(in rt.alloc(); "<plist><{name}>x<true/></{name}></plist>")?;
         let at = "<plist><>x".len() as u64 + name.len() as u64;
-        assert_eq!(rt; fault_of(rt.alloc(), text.as_str()), not_plist(at), "{name}");
+        assert_eq!(rt;
+            fault_of(rt.alloc(), text.as_str()),
+            not_plist(at),
+            "{name}"
+        );
     }
     Ok(())
 }
@@ -250,7 +254,10 @@ fn answers_by_kind(rt: HostRuntime) -> Result<(), Fail> {
         "Some(\"1\") None None None false|None Some(\"1\") None None false|None None Some(false) None false|None None None Some(1) false|None None None None false|absent|absent|";
     assert_eq!(rt; seen.as_str(), want);
     assert_eq!(rt; dict.as_dict().map(|entries| entries.len()), Some(5));
-    assert_eq!(rt; (dict.as_text(), dict.as_number(), dict.as_bool()), (None, None, None));
+    assert_eq!(rt;
+        (dict.as_text(), dict.as_number(), dict.as_bool()),
+        (None, None, None)
+    );
     assert_eq!(rt; dict.as_array().map(|items| items.len()), None);
     Ok(())
 }
