@@ -1,12 +1,12 @@
 -- The steps of a walk that goes on past cycles keep what it keeps true.
-use Rattle.std.proofs.Common.{◌≡◌, ◌≤◌, ◌<◌, ◌⊎◌, inl, inr, ℕ, ◌+◌, ◌-◌, List, [], ◌∷◌, ◌++◌, length, set, Some, Ok, Err, refl, sym, ◌∙◌, ap, subst, arith, length-append, length-set}
-use Rattle.std.specs.Prelude.{All, OnOk, Result, slice_index, slice_index_or, slice_get}
+use Rattle.std.proofs.Common.{◌≡◌, ◌≤◌, ◌<◌, inl, inr, ℕ, ◌+◌, ◌-◌, List, [], ◌∷◌, ◌++◌, length, set, Some, Ok, Err, sym, ◌∙◌, ap, subst, arith, length-append, length-set}
+use Rattle.std.specs.Prelude.{All, OnOk, Result, slice_get}
 use Rattle.std.proofs.lemmas.Bool.{cases_eq}
 use Rattle.std.proofs.lemmas.List.{get_or-set_same, get_or-set_other}
 use Rattle.std.proofs.lemmas.List.Sums.{sum_by-set}
 use Rattle.std.proofs.lemmas.List.Elements.{All-push, All-pop}
-use Rattle.compat.specs.References.{bases_at, IsClosed}
-use Rattle.compat.specs.Walks.{blank, mark_at, left_at, newness, steps_left, IsNextBase, IsTour, IsTourStep, IsWalk}
+use Rattle.compat.specs.References.{IsClosed}
+use Rattle.compat.specs.Walks.{blank, mark_at, left_at, newness, IsNextBase, IsTour, IsTourStep, IsWalk}
 use Rattle.compat.specs.declared.order.Mark.TheVariants.{New, Open, Done}
 use Rattle.compat.specs.declared.order.Node.{Node}
 use Rattle.compat.proofs.Steps.{last_is}

@@ -87,7 +87,10 @@ fn fault_of(flat: &Flat) -> Option<(Kind, i64)>
 {
     match flat {
         Flat::Unknown => None,
-        Flat::Few(contours, _) => Some((Kind::CoordinateRange, coordinate_in(contours.as_slice())?)),
+        Flat::Few(contours, _) => Some((
+            Kind::CoordinateRange,
+            coordinate_in(contours.as_slice())?,
+        )),
         Flat::Many(count) => Some((Kind::TooManyPoints, *count as i64)),
     }
 }

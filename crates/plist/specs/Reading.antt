@@ -1,12 +1,12 @@
 -- What a property list means (Apple's property lists in XML, as UFO 3 uses them), or its first fault: the first
 -- element that may not stand where it is, or the one that lacks a child. An element comes before its children,
 -- and these come in order, each with all in it.
-use Rattle.std.specs.Prelude.{ℕ, pos, Bool, true, false, ◌||◌, List, [], ◌∷◌, codes, Result, Ok, Err, if◌then◌else◌}
+use Rattle.std.specs.Prelude.{ℕ, pos, true, false, ◌||◌, List, [], ◌∷◌, codes, Result, Ok, Err, if◌then◌else◌}
 use Rattle.std.specs.Str.{bytes_eq}
 use Rattle.basics.specs.Reading.{◌>>=◌, spot_of}
 use Rattle.basics.specs.declared.kinds.Kind.TheVariants.{NotPlist}
 use Rattle.basics.specs.declared.fault.Spot.{Spot}
-use Rattle.markup_rules.specs.Tree.{and_trees, at_of, children_of, is_named, name_of, no_trees, node, text_of, Tree, Trees, trees_of}
+use Rattle.markup_rules.specs.Tree.{and_trees, at_of, children_of, is_named, no_trees, node, text_of, Tree, Trees, trees_of}
 use Rattle.plist.specs.declared.form.Form.{Form}
 use Rattle.plist.specs.declared.form.Form.TheVariants.{Text, Number, True, False, Array, Dict, Unread, Unknown}
 use Rattle.plist.specs.Entries.{firsts}

@@ -1,7 +1,6 @@
-use Rattle.std.proofs.Common.{◌≡◌, ◌<◌, ◌-◌, ◌∙◌, Bool, false, true, length, sym, subst, arith, length-set}
-use Rattle.std.specs.Prelude.{All, slice_index}
+use Rattle.std.proofs.Common.{◌≡◌, ◌<◌, ◌-◌, ◌∙◌, false, length, sym, arith, length-set}
+use Rattle.std.specs.Prelude.{slice_index}
 use Rattle.std.proofs.lemmas.Grind.{common_steps}
-use Rattle.compat.specs.References.{bases_at}
 use Rattle.compat.specs.Searches.{is_marked}
 use Rattle.compat.proofs.Marking.{read_bases}
 use Rattle.compat.proofs.Spreading.{all_below, more_clear, test_read}

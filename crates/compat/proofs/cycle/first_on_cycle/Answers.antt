@@ -1,4 +1,4 @@
-use Rattle.std.proofs.Common.{◌<◌, length, arith}
+use Rattle.std.proofs.Common.{arith}
 use Rattle.compat.proofs.Marking.{reaches_known}
 use Rattle.compat.proofs.cycle.first_on_cycle.Goals as goal
 

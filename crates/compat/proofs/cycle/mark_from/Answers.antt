@@ -1,6 +1,4 @@
-use Rattle.std.proofs.Common.{◌≡◌, length, arith}
-use Rattle.std.proofs.lemmas.Grind.{common_steps}
-use Rattle.compat.proofs.Spreading.{spreading_begins, spreads, spreading_ends, waits_known}
+use Rattle.compat.proofs.Spreading.{spreading_begins, spreads, waits_known}
 use Rattle.compat.proofs.cycle.mark_from.Goals as goal
 
 pub loop-next-init : goal.loop-next-init

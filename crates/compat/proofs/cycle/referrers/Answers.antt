@@ -1,6 +1,5 @@
 use Rattle.std.proofs.Common.{◌≡◌, ◌<◌, ◌++◌, ◌∷◌, ◌∙◌, [], length, ap, refl, subst, sym, arith, length-append}
 use Rattle.std.specs.Prelude.{All, slice_index}
-use Rattle.std.proofs.lemmas.Grind.{common_steps}
 use Rattle.std.proofs.lemmas.List.{get_or_default}
 use Rattle.compat.specs.References.{bases_at}
 use Rattle.compat.proofs.Marking.{read_bases}

@@ -1,4 +1,4 @@
-use Rattle.std.proofs.Common.{◌≡◌, map, take, ◌++◌, ◌∷◌, [], sym, ap, ◌∙◌, None, Some}
+use Rattle.std.proofs.Common.{◌≡◌, map, take, ◌++◌, ◌∷◌, [], sym, ap, ◌∙◌, Some}
 use Rattle.std.specs.Option.{option_map}
 use Rattle.compat.specs.Names.{number_in, number_of, base_numbers, dangling_in, dangling_refusal, first_dangling}
 use Rattle.std.proofs.lemmas.Result.{err_from_is_err_and}

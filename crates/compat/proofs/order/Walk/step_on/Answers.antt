@@ -1,5 +1,4 @@
 use Rattle.std.proofs.Common.{sym}
-use Rattle.std.specs.Prelude.{All}
 use Rattle.compat.proofs.Tours.{closes, next_known, on_ok, step_opens, two_ok}
 use Rattle.compat.proofs.order.Walk.step_on.Goals as goal
 
