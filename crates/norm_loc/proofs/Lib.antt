@@ -1,0 +1,7 @@
+pub mod BoundLemmas
+pub mod Choices
+pub mod Lines
+pub mod MapLemmas
+pub mod PairLemmas
+pub mod RisingLemmas
+pub mod RoundingBounds
