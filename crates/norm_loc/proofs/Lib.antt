@@ -1,5 +1,6 @@
 pub mod BoundLemmas
 pub mod Choices
+pub mod LawLemmas
 pub mod Lines
 pub mod MapLemmas
 pub mod PairLemmas

@@ -23,13 +23,13 @@ pub record IsFront (p : ℤ × ℤ) (pairs front : List (ℤ × ℤ)) : Type 0 w
   pub against : list_any (is_against p) pairs ≡ list_any (is_against p) front
 
 -- a pair with a smaller first number, with the same one, and with a greater one
-before_greater : (p q : ℤ × ℤ) (qs : List (ℤ × ℤ)) → p.0 <ℤ q.0 → with_pair p (q ∷ qs) ≡ p ∷ q ∷ qs
+pub before_greater : (p q : ℤ × ℤ) (qs : List (ℤ × ℤ)) → p.0 <ℤ q.0 → with_pair p (q ∷ qs) ≡ p ∷ q ∷ qs
 before_greater p q qs less = rw (lt_true p.0 q.0 less) refl
 
-after_smaller : (p q : ℤ × ℤ) (qs : List (ℤ × ℤ)) → q.0 <ℤ p.0 → with_pair p (q ∷ qs) ≡ q ∷ with_pair p qs
+pub after_smaller : (p q : ℤ × ℤ) (qs : List (ℤ × ℤ)) → q.0 <ℤ p.0 → with_pair p (q ∷ qs) ≡ q ∷ with_pair p qs
 after_smaller p q qs less = rw (lt_false p.0 q.0 (omega (arith, ints)), lt_true q.0 p.0 less) refl
 
-at_same : (p q : ℤ × ℤ) (qs : List (ℤ × ℤ)) → q.0 ≡ p.0 → with_pair p (q ∷ qs) ≡ q ∷ qs
+pub at_same : (p q : ℤ × ℤ) (qs : List (ℤ × ℤ)) → q.0 ≡ p.0 → with_pair p (q ∷ qs) ≡ q ∷ qs
 at_same p q qs same = rw (lt_false p.0 q.0 (omega (arith, ints)), lt_false q.0 p.0 (omega (arith, ints))) refl
 
 -- what becomes of a pair, by its first number and another's

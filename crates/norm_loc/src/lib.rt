@@ -6,11 +6,15 @@
 mod axis_map;
 mod coordinate;
 mod follow;
+mod laws;
 mod pairs;
 mod span;
 mod stop;
+#[cfg(test)]
+mod tests;
 
 pub use axis_map::{AxisMap, avar_at, avar_pairs, backward, forward};
 pub use coordinate::normalise;
+pub use laws::{nodes_law, pairs_law};
 pub use span::Span;
 pub use stop::MapStop;
