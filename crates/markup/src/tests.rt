@@ -146,7 +146,7 @@ const WHOLE: [(usize, &str); 3] = [
 
 // Writes a tree into a line.
 fn show(element: &Element, out: &mut String) -> Result<(), AllocError> {
-    write!(out, "{}@{}", element.name(), element.index())?;
+    write!(out, "{}@{}", element.name(), element.offset())?;
     for (key, value) in element.attributes() {
         write!(out, " {}={}", key.as_str(), value.as_str())?;
     }

@@ -21,7 +21,7 @@ use std::alloc::Global;
 fn fault(alloc: Global, element: &Element) -> Stop
     ensures { IsStop result (rules.spot_at (plain element.now)) }
 {
-    stop_at(alloc, Kind::NotPlist, "", element.place(), 0)
+    stop_at(alloc, Kind::NotPlist, "", element.offset(), 0)
 }
 
 /// Stops at the first of these elements, where no element may stand.
