@@ -1,0 +1,9 @@
+pub mod Classes
+pub mod FontInfo
+pub mod Keys
+pub mod Lines
+pub mod Metrics
+pub mod Naming
+pub mod Ranges
+pub mod Texts
+pub mod Underlines
