@@ -7,46 +7,42 @@ use Rattle.plist.specs.Values.{Entry, PlainValue, as_dict}
 use Rattle.fontinfo.specs.declared.info.Info.{Info}
 use Rattle.fontinfo.specs.declared.metrics.Metrics.{Metrics}
 use Rattle.fontinfo.specs.declared.naming.Naming.{Naming}
-use Rattle.fontinfo.specs.declared.lines.Lines.{Lines}
-use Rattle.fontinfo.specs.declared.classes.Classes.{Classes}
-use Rattle.fontinfo.specs.declared.underline.Underline.{Underline}
+use Rattle.fontinfo.specs.declared.tables.Tables.{Tables}
 use Rattle.fontinfo.specs.Keys.{wrong_kind}
 use Rattle.fontinfo.specs.Metrics.{metrics_of}
 use Rattle.fontinfo.specs.Naming.{naming_of}
-use Rattle.fontinfo.specs.Lines.{lines_of}
-use Rattle.fontinfo.specs.Classes.{classes_of}
-use Rattle.fontinfo.specs.Underlines.{underline_of}
+use Rattle.fontinfo.specs.Tables.{tables_of}
 use Rattle.fontinfo.specs.Ranges as range
 use Rattle.fontinfo.specs.Ranges.{IsWithin}
 
 -- the parts put together
-abbrev pub info_from : Metrics → Naming → Lines → Classes → Underline → Info
-info_from metrics naming lines classes underline = record {
+abbrev pub info_from : Metrics → Naming → Tables → Info
+info_from metrics naming tables = record {
   units = metrics.units;
-  ascender = metrics.ascender;
-  descender = metrics.descender;
-  x_height = metrics.x_height;
-  cap_height = metrics.cap_height;
-  italic = metrics.italic;
-  family = naming.family;
-  style = naming.style;
-  major = naming.major;
-  minor = naming.minor;
-  copyright = naming.copyright;
-  version = naming.version;
-  hhea_ascender = lines.hhea_ascender;
-  hhea_descender = lines.hhea_descender;
-  hhea_gap = lines.hhea_gap;
-  typo_ascender = lines.typo_ascender;
-  typo_descender = lines.typo_descender;
-  typo_gap = lines.typo_gap;
-  win_ascent = classes.win_ascent;
-  win_descent = classes.win_descent;
-  weight = classes.weight;
-  width = classes.width;
-  vendor = classes.vendor;
-  underline_at = underline.position;
-  underline_size = underline.size;
+  ascender = metrics.heights.ascender;
+  descender = metrics.heights.descender;
+  x_height = metrics.letters.x_height;
+  cap_height = metrics.letters.cap_height;
+  italic = metrics.letters.italic;
+  family = naming.names.family;
+  style = naming.names.style;
+  major = naming.numbers.major;
+  minor = naming.numbers.minor;
+  copyright = naming.legal.copyright;
+  version = naming.legal.version;
+  hhea_ascender = tables.hhea.ascender;
+  hhea_descender = tables.hhea.descender;
+  hhea_gap = tables.hhea.gap;
+  typo_ascender = tables.os2.typo.ascender;
+  typo_descender = tables.os2.typo.descender;
+  typo_gap = tables.os2.typo.gap;
+  win_ascent = tables.os2.clipping.ascent;
+  win_descent = tables.os2.clipping.descent;
+  weight = tables.os2.classes.weight;
+  width = tables.os2.classes.width;
+  vendor = tables.os2.classes.vendor;
+  underline_at = tables.underline.position;
+  underline_size = tables.underline.size;
 }
 
 -- the value is a dictionary
@@ -62,10 +58,8 @@ info_of info = do
   tested ← is_dict info
   metrics ← metrics_of info
   naming ← naming_of info
-  lines ← lines_of metrics.ascender metrics.descender info
-  classes ← classes_of info
-  underline ← underline_of metrics.units info
-  Ok (info_from metrics naming lines classes underline)
+  tables ← tables_of metrics info
+  Ok (info_from metrics naming tables)
 
 -- the numbers of font information lie in their ranges
 pub record AreNumbersWithin (info : Info) : Type 0 where

@@ -1,14 +1,15 @@
 ghost use Rattle.std.specs.Prelude.{◌≡◌, IfOk, Ok};
 ghost use Rattle.basics.specs.Reading.{Gives};
 ghost use Rattle.plist.specs.Values.{dict, no_entries, plain_value};
-ghost use Rattle.fontinfo.specs.FontInfo.{AreNumbersWithin, info_of, is_dict};
+ghost use Rattle.fontinfo.specs.Metrics.{AreMetricsWithin};
+ghost use Rattle.fontinfo.specs.Naming.{IsVersionWithin};
+ghost use Rattle.fontinfo.specs.Tables.{AreTablesWithin};
+ghost use Rattle.fontinfo.specs.FontInfo.{AreNumbersWithin, info_from, info_of, is_dict};
 
-use crate::classes::read_classes;
 use crate::keys::wrong_kind;
-use crate::lines::read_lines;
-use crate::metrics::read_metrics;
-use crate::naming::read_naming;
-use crate::underline::read_underline;
+use crate::metrics::{Metrics, read_metrics};
+use crate::naming::{Legal, Names, Naming, read_naming};
+use crate::tables::{Tables, read_tables};
 use basics::{Name, NoMemory, Stop};
 use fixpoint::Fix;
 use plist::Value;
@@ -71,6 +72,46 @@ pub struct Info {
     pub underline_size: i32,
 }
 
+/// The parts put together.
+fn info_from(metrics: &Metrics, naming: Naming, tables: Tables) -> Info
+    requires metrics { AreMetricsWithin metrics.now }
+    requires version { IsVersionWithin naming.numbers }
+    requires tables { AreTablesWithin tables }
+    ensures value { result ≡ info_from metrics.now naming tables }
+    ensures within { AreNumbersWithin result }
+{
+    let Names { family, style } = naming.names;
+    let Legal { copyright, version } = naming.legal;
+    let vendor = tables.os2.classes.vendor;
+    Info {
+        units: metrics.units,
+        ascender: metrics.heights.ascender,
+        descender: metrics.heights.descender,
+        x_height: metrics.letters.x_height,
+        cap_height: metrics.letters.cap_height,
+        italic: metrics.letters.italic,
+        family,
+        style,
+        major: naming.numbers.major,
+        minor: naming.numbers.minor,
+        copyright,
+        version,
+        hhea_ascender: tables.hhea.ascender,
+        hhea_descender: tables.hhea.descender,
+        hhea_gap: tables.hhea.gap,
+        typo_ascender: tables.os2.typo.ascender,
+        typo_descender: tables.os2.typo.descender,
+        typo_gap: tables.os2.typo.gap,
+        win_ascent: tables.os2.clipping.ascent,
+        win_descent: tables.os2.clipping.descent,
+        weight: tables.os2.classes.weight,
+        width: tables.os2.classes.width,
+        vendor,
+        underline_at: tables.underline.position,
+        underline_size: tables.underline.size,
+    }
+}
+
 /// Tests that the value is a dictionary.
 fn check_dict(alloc: Global, value: &Value) -> Result<(), Stop>
     ensures { Gives (λ _. tt) result (is_dict (plain_value value.now)) }
@@ -103,36 +144,8 @@ pub fn read(alloc: Global, value: &Value) -> Result<Info, Stop>
     check_dict(alloc, value)?;
     let metrics = read_metrics(alloc, value)?;
     let naming = read_naming(alloc, value)?;
-    let lines = read_lines(alloc, metrics.ascender, metrics.descender, value)?;
-    let classes = read_classes(alloc, value)?;
-    let underline = read_underline(alloc, metrics.units, value)?;
-    Ok(Info {
-        units: metrics.units,
-        ascender: metrics.ascender,
-        descender: metrics.descender,
-        x_height: metrics.x_height,
-        cap_height: metrics.cap_height,
-        italic: metrics.italic,
-        family: naming.family,
-        style: naming.style,
-        major: naming.major,
-        minor: naming.minor,
-        copyright: naming.copyright,
-        version: naming.version,
-        hhea_ascender: lines.hhea_ascender,
-        hhea_descender: lines.hhea_descender,
-        hhea_gap: lines.hhea_gap,
-        typo_ascender: lines.typo_ascender,
-        typo_descender: lines.typo_descender,
-        typo_gap: lines.typo_gap,
-        win_ascent: classes.win_ascent,
-        win_descent: classes.win_descent,
-        weight: classes.weight,
-        width: classes.width,
-        vendor: classes.vendor,
-        underline_at: underline.position,
-        underline_size: underline.size,
-    })
+    let tables = read_tables(alloc, &metrics, value)?;
+    Ok(info_from(&metrics, naming, tables))
 }
 
 impl Info {
@@ -145,6 +158,7 @@ impl Info {
         let family = Name::from_str(alloc, "Untitled")?;
         let style = Name::from_str(alloc, "Regular")?;
         let version = Name::from_str(alloc, "Version 0.000")?;
+        let vendor = [b' '; 4];
         Ok(Info {
             units: 1000,
             ascender: 800,
@@ -168,7 +182,7 @@ impl Info {
             win_descent: None,
             weight: 400,
             width: 5,
-            vendor: [b' '; 4],
+            vendor,
             underline_at: -100,
             underline_size: 50,
         })

@@ -1,10 +1,12 @@
-ghost use Rattle.std.specs.Prelude.{◌≡◌, ℕ, ℤ, pos, List, IfOk, IfSome};
+ghost use Rattle.std.specs.Prelude.{◌≡◌, ℕ, ℤ, pos, List, [], IfOk, IfSome};
 ghost use Rattle.basics.specs.Reading.{Gives, IsStop, spot_of};
 ghost use Rattle.basics.specs.declared.kinds.Kind.TheVariants.{NotPlist};
 ghost use Rattle.plist.specs.Values.{as_number, as_text, plain_value};
+ghost use Rattle.fontinfo.specs.KeyNames.{key_name};
 ghost use Rattle.fontinfo.specs.Keys as rules;
 ghost use Rattle.fontinfo.specs.Ranges.{IsWithin};
 
+use crate::key::Key;
 use crate::texts::{tag_of, utf16_length};
 use basics::{Kind, Name, Stop, stop_at};
 use fixpoint::{Fix, NumberFault, divide_up, parse_fix16};
@@ -37,10 +39,10 @@ pub(crate) fn wrong_kind(alloc: Global) -> Stop
 }
 
 /// The stop at a fault of a key's value.
-fn key_fault(alloc: Global, kind: Kind, key: &str) -> Stop
-    ensures { IsStop result (spot_of kind key.now 0 (pos 0)) }
+fn key_fault(alloc: Global, kind: Kind, key: Key) -> Stop
+    ensures { IsStop result (spot_of kind (key_name key) 0 (pos 0)) }
 {
-    stop_at(alloc, kind, key, 0, 0)
+    stop_at(alloc, kind, key.name(), 0, 0)
 }
 
 /// What a fault of a number's text is called.
@@ -77,10 +79,10 @@ fn own_text(alloc: Global, value: &Value) -> Result<&str, Stop>
 /// The number that was found, or the fault of its text.
 fn number_or_fault(
     alloc: Global,
-    key: &str,
+    key: Key,
     found: Result<Fix<16>, NumberFault>,
 ) -> Result<Fix<16>, Stop>
-    ensures { Gives (λ number. number) result (rules.number_or_fault key.now found) }
+    ensures { Gives (λ number. number) result (rules.number_or_fault key found) }
 {
     match found {
         Ok(number) => Ok(number),
@@ -90,8 +92,8 @@ fn number_or_fault(
 
 /// A number with 16 binary places.
 #[tactic(auto, unfolding(crate::specs::Keys::fixed_of))]
-fn read_fixed(alloc: Global, key: &str, value: &Value) -> Result<Fix<16>, Stop>
-    ensures { Gives (λ number. number) result (rules.fixed_of key.now (plain_value value.now)) }
+fn read_fixed(alloc: Global, key: Key, value: &Value) -> Result<Fix<16>, Stop>
+    ensures { Gives (λ number. number) result (rules.fixed_of key (plain_value value.now)) }
 {
     let text = number_text(alloc, value)?;
     let number = number_or_fault(alloc, key, parse_fix16(text))?;
@@ -100,16 +102,16 @@ fn read_fixed(alloc: Global, key: &str, value: &Value) -> Result<Fix<16>, Stop>
 
 /// The whole number nearest to the one that is written, a tie going up.
 #[tactic(auto, unfolding(crate::specs::Keys::rounded_of))]
-pub(crate) fn read_rounded(alloc: Global, key: &str, value: &Value) -> Result<i64, Stop>
-    ensures { Gives (λ number. number) result (rules.rounded_of key.now (plain_value value.now)) }
+pub(crate) fn read_rounded(alloc: Global, key: Key, value: &Value) -> Result<i64, Stop>
+    ensures { Gives (λ number. number) result (rules.rounded_of key (plain_value value.now)) }
 {
     let number = read_fixed(alloc, key, value)?;
     Ok(divide_up(number.wide(), 65_536))
 }
 
 /// The number, where it is in the range.
-fn ranged(alloc: Global, range: Range, key: &str, number: i64) -> Result<i32, Stop>
-    ensures exact { Gives (λ number. number) result (rules.ranged range key.now number) }
+fn ranged(alloc: Global, range: Range, key: Key, number: i64) -> Result<i32, Stop>
+    ensures exact { Gives (λ number. number) result (rules.ranged range key number) }
     ensures within { IfOk result (IsWithin range) }
 {
     if i64::from(range.least) <= number && number <= i64::from(range.greatest) {
@@ -121,8 +123,8 @@ fn ranged(alloc: Global, range: Range, key: &str, number: i64) -> Result<i32, St
 
 /// A whole number in the range, after rounding.
 #[tactic(auto, unfolding(crate::specs::Keys::number_of))]
-fn read_number(alloc: Global, range: Range, key: &str, value: &Value) -> Result<i32, Stop>
-    ensures exact { Gives (λ number. number) result (rules.number_of range key.now (plain_value value.now)) }
+fn read_number(alloc: Global, range: Range, key: Key, value: &Value) -> Result<i32, Stop>
+    ensures exact { Gives (λ number. number) result (rules.number_of range key (plain_value value.now)) }
     ensures within { IfOk result (IsWithin range) }
 {
     let number = read_rounded(alloc, key, value)?;
@@ -136,14 +138,14 @@ pub(crate) fn number_or(
     alloc: Global,
     range: Range,
     default: i32,
-    key: &str,
+    key: Key,
     info: &Value,
 ) -> Result<i32, Stop>
     requires { IsWithin range default }
-    ensures exact { Gives (λ number. number) result (rules.number_or range default key.now (plain_value info.now)) }
+    ensures exact { Gives (λ number. number) result (rules.number_or range default key (plain_value info.now)) }
     ensures within { IfOk result (IsWithin range) }
 {
-    match info.get(key) {
+    match info.get(key.name()) {
         Some(value) => read_number(alloc, range, key, value),
         None => Ok(default),
     }
@@ -154,13 +156,13 @@ pub(crate) fn number_or(
 pub(crate) fn number_if_there(
     alloc: Global,
     range: Range,
-    key: &str,
+    key: Key,
     info: &Value,
 ) -> Result<Option<i32>, Stop>
-    ensures exact { Gives (λ number. number) result (rules.number_if_there range key.now (plain_value info.now)) }
+    ensures exact { Gives (λ number. number) result (rules.number_if_there range key (plain_value info.now)) }
     ensures within { IfOk result (λ number. IfSome number (IsWithin range)) }
 {
-    match info.get(key) {
+    match info.get(key.name()) {
         Some(value) => {
             let number = read_number(alloc, range, key, value)?;
             Ok(Some(number))
@@ -171,32 +173,32 @@ pub(crate) fn number_if_there(
 
 /// The number with 16 binary places of a key, 0 where the key is absent.
 #[tactic(auto, unfolding(crate::specs::Keys::fixed_or_zero))]
-pub(crate) fn fixed_or_zero(alloc: Global, key: &str, info: &Value) -> Result<Fix<16>, Stop>
-    ensures { Gives (λ number. number) result (rules.fixed_or_zero key.now (plain_value info.now)) }
+pub(crate) fn fixed_or_zero(alloc: Global, key: Key, info: &Value) -> Result<Fix<16>, Stop>
+    ensures { Gives (λ number. number) result (rules.fixed_or_zero key (plain_value info.now)) }
 {
-    match info.get(key) {
+    match info.get(key.name()) {
         Some(value) => read_fixed(alloc, key, value),
         None => Ok(Fix::from_raw(0)),
     }
 }
 
 /// The text, where it takes at most so many units of UTF-16.
-fn short(alloc: Global, most: usize, key: &str, text: &str) -> Result<Name, Stop>
-    ensures { Gives (λ text. text) result (rules.short most key.now text.now) }
+fn short(alloc: Global, most: usize, key: Key, text: &str) -> Result<Name, Stop>
+    ensures { Gives (λ text. text) result (rules.short most key text.now) }
 {
     let units = utf16_length(text);
     if units <= most {
         let text = Name::from_str(alloc, text)?;
         Ok(text)
     } else {
-        Err(stop_at(alloc, Kind::NameLength, key, 0, units as i64))
+        Err(stop_at(alloc, Kind::NameLength, key.name(), 0, units as i64))
     }
 }
 
 /// A text of at most so many units of UTF-16.
 #[tactic(auto, unfolding(crate::specs::Keys::text_of))]
-pub(crate) fn read_text(alloc: Global, most: usize, key: &str, value: &Value) -> Result<Name, Stop>
-    ensures { Gives (λ text. text) result (rules.text_of most key.now (plain_value value.now)) }
+pub(crate) fn read_text(alloc: Global, most: usize, key: Key, value: &Value) -> Result<Name, Stop>
+    ensures { Gives (λ text. text) result (rules.text_of most key (plain_value value.now)) }
 {
     let text = own_text(alloc, value)?;
     let text = short(alloc, most, key, text)?;
@@ -209,12 +211,12 @@ pub(crate) fn text_or(
     alloc: Global,
     most: usize,
     default: &str,
-    key: &str,
+    key: Key,
     info: &Value,
 ) -> Result<Name, Stop>
-    ensures { Gives (λ text. text) result (rules.text_or most default.now key.now (plain_value info.now)) }
+    ensures { Gives (λ text. text) result (rules.text_or most default.now key (plain_value info.now)) }
 {
-    match info.get(key) {
+    match info.get(key.name()) {
         Some(value) => read_text(alloc, most, key, value),
         None => {
             let text = Name::from_str(alloc, default)?;
@@ -228,12 +230,12 @@ pub(crate) fn text_or(
 pub(crate) fn text_if_there(
     alloc: Global,
     most: usize,
-    key: &str,
+    key: Key,
     info: &Value,
 ) -> Result<Option<Name>, Stop>
-    ensures { Gives (λ text. text) result (rules.text_if_there most key.now (plain_value info.now)) }
+    ensures { Gives (λ text. text) result (rules.text_if_there most key (plain_value info.now)) }
 {
-    match info.get(key) {
+    match info.get(key.name()) {
         Some(value) => {
             let text = read_text(alloc, most, key, value)?;
             Ok(Some(text))

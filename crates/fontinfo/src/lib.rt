@@ -4,10 +4,12 @@
 
 mod classes;
 mod info;
+mod key;
 mod keys;
 mod lines;
 mod metrics;
 mod naming;
+mod tables;
 mod texts;
 mod underline;
 

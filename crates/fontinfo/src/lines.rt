@@ -5,31 +5,26 @@ ghost use Rattle.fontinfo.specs.Lines as rules;
 ghost use Rattle.fontinfo.specs.Lines.{AreLinesWithin};
 ghost use Rattle.fontinfo.specs.Ranges.{IsWithin, metric};
 
+use crate::key::Key;
 use crate::keys::{METRIC, number_or};
 use basics::Stop;
 use plist::Value;
 use std::alloc::Global;
 
-/// The heights of lines, for the tables `hhea` and `OS/2`.
+/// The heights of lines, as a table says them.
 #[derive(Clone, Copy)]
 pub(crate) struct Lines {
-    /// The ascender of `hhea`.
-    pub(crate) hhea_ascender: i32,
-    /// The descender of `hhea`.
-    pub(crate) hhea_descender: i32,
-    /// The gap between lines of `hhea`.
-    pub(crate) hhea_gap: i32,
-    /// The ascender of `OS/2`.
-    pub(crate) typo_ascender: i32,
-    /// The descender of `OS/2`.
-    pub(crate) typo_descender: i32,
-    /// The gap between lines of `OS/2`.
-    pub(crate) typo_gap: i32,
+    /// The ascender.
+    pub(crate) ascender: i32,
+    /// The descender.
+    pub(crate) descender: i32,
+    /// The gap between lines.
+    pub(crate) gap: i32,
 }
 
-/// The heights of lines of a font with this ascender and this descender.
-#[tactic(auto, unfolding(crate::specs::Lines::lines_of))]
-pub(crate) fn read_lines(
+/// The heights of lines of `hhea`, where the font has this ascender and this descender.
+#[tactic(auto, unfolding(crate::specs::Lines::hhea_of))]
+pub(crate) fn read_hhea(
     alloc: Global,
     ascender: i32,
     descender: i32,
@@ -37,21 +32,38 @@ pub(crate) fn read_lines(
 ) -> Result<Lines, Stop>
     requires up { IsWithin metric ascender }
     requires down { IsWithin metric descender }
-    ensures exact { Gives (λ lines. lines) result (rules.lines_of ascender descender (plain_value info.now)) }
+    ensures exact { Gives (λ lines. lines) result (rules.hhea_of ascender descender (plain_value info.now)) }
     ensures within { IfOk result AreLinesWithin }
 {
-    let hhea_ascender = number_or(alloc, METRIC, ascender, "openTypeHheaAscender", info)?;
-    let hhea_descender = number_or(alloc, METRIC, descender, "openTypeHheaDescender", info)?;
-    let hhea_gap = number_or(alloc, METRIC, 0, "openTypeHheaLineGap", info)?;
-    let typo_ascender = number_or(alloc, METRIC, ascender, "openTypeOS2TypoAscender", info)?;
-    let typo_descender = number_or(alloc, METRIC, descender, "openTypeOS2TypoDescender", info)?;
-    let typo_gap = number_or(alloc, METRIC, 0, "openTypeOS2TypoLineGap", info)?;
+    let ascender = number_or(alloc, METRIC, ascender, Key::HheaAscender, info)?;
+    let descender = number_or(alloc, METRIC, descender, Key::HheaDescender, info)?;
+    let gap = number_or(alloc, METRIC, 0, Key::HheaLineGap, info)?;
     Ok(Lines {
-        hhea_ascender,
-        hhea_descender,
-        hhea_gap,
-        typo_ascender,
-        typo_descender,
-        typo_gap,
+        ascender,
+        descender,
+        gap,
+    })
+}
+
+/// The heights of lines of `OS/2`, where the font has this ascender and this descender.
+#[tactic(auto, unfolding(crate::specs::Lines::typo_of))]
+pub(crate) fn read_typo(
+    alloc: Global,
+    ascender: i32,
+    descender: i32,
+    info: &Value,
+) -> Result<Lines, Stop>
+    requires up { IsWithin metric ascender }
+    requires down { IsWithin metric descender }
+    ensures exact { Gives (λ lines. lines) result (rules.typo_of ascender descender (plain_value info.now)) }
+    ensures within { IfOk result AreLinesWithin }
+{
+    let ascender = number_or(alloc, METRIC, ascender, Key::TypoAscender, info)?;
+    let descender = number_or(alloc, METRIC, descender, Key::TypoDescender, info)?;
+    let gap = number_or(alloc, METRIC, 0, Key::TypoLineGap, info)?;
+    Ok(Lines {
+        ascender,
+        descender,
+        gap,
     })
 }

@@ -6,7 +6,9 @@ ghost use Rattle.fontinfo.specs.Ranges.{IsWithin};
 ghost use Rattle.fontinfo.specs.Underlines as rules;
 ghost use Rattle.fontinfo.specs.Underlines.{IsUnderlineWithin};
 
+use crate::key::Key;
 use crate::keys::{METRIC, number_or};
+use crate::metrics::part_of;
 use basics::Stop;
 use plist::Value;
 use std::alloc::Global;
@@ -27,10 +29,19 @@ pub(crate) fn read_underline(alloc: Global, units: i32, info: &Value) -> Result<
     ensures exact { Gives (λ underline. underline) result (rules.underline_of units (plain_value info.now)) }
     ensures within { IfOk result IsUnderlineWithin }
 {
-    let em = units.unsigned_abs();
-    let lower = -((em / 10) as i32);
-    let position = number_or(alloc, METRIC, lower, "postscriptUnderlinePosition", info)?;
-    let twentieth = (em / 20) as i32;
-    let size = number_or(alloc, METRIC, twentieth, "postscriptUnderlineThickness", info)?;
+    let position = number_or(
+        alloc,
+        METRIC,
+        -part_of(units, 1, 10),
+        Key::UnderlinePosition,
+        info,
+    )?;
+    let size = number_or(
+        alloc,
+        METRIC,
+        part_of(units, 1, 20),
+        Key::UnderlineThickness,
+        info,
+    )?;
     Ok(Underline { position, size })
 }
