@@ -58,7 +58,7 @@ info_of info = do
   tested ← is_dict info
   metrics ← metrics_of info
   naming ← naming_of info
-  tables ← tables_of metrics info
+  tables ← tables_of metrics.units metrics.heights.ascender metrics.heights.descender info
   Ok (info_from metrics naming tables)
 
 -- the numbers of font information lie in their ranges

@@ -3,7 +3,6 @@ use Rattle.std.specs.Prelude.{ℕ, ℤ, List, Result, Ok}
 use Rattle.basics.specs.Reading.{◌>>=◌}
 use Rattle.basics.specs.declared.fault.Spot.{Spot}
 use Rattle.plist.specs.Values.{PlainValue}
-use Rattle.fontinfo.specs.declared.metrics.Metrics.{Metrics}
 use Rattle.fontinfo.specs.declared.tables.Os2.{Os2}
 use Rattle.fontinfo.specs.declared.tables.Tables.{Tables}
 use Rattle.fontinfo.specs.Classes.{classes_of, clipping_of, AreClassesWithin, IsClippingWithin}
@@ -17,11 +16,11 @@ os2_of ascender descender info = do
   classes ← classes_of info
   Ok (record { typo = typo; clipping = clipping; classes = classes })
 
-unfoldable pub tables_of : Metrics → PlainValue → Result Tables Spot
-tables_of metrics info = do
-  hhea ← hhea_of metrics.heights.ascender metrics.heights.descender info
-  os2 ← os2_of metrics.heights.ascender metrics.heights.descender info
-  underline ← underline_of metrics.units info
+unfoldable pub tables_of : ℤ → ℤ → ℤ → PlainValue → Result Tables Spot
+tables_of units ascender descender info = do
+  hhea ← hhea_of ascender descender info
+  os2 ← os2_of ascender descender info
+  underline ← underline_of units info
   Ok (record { hhea = hhea; os2 = os2; underline = underline })
 
 pub record IsOs2Within (os2 : Os2) : Type 0 where

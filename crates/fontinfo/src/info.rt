@@ -7,7 +7,7 @@ ghost use Rattle.fontinfo.specs.Tables.{AreTablesWithin};
 ghost use Rattle.fontinfo.specs.FontInfo.{AreNumbersWithin, info_from, info_of, is_dict};
 
 use crate::keys::wrong_kind;
-use crate::metrics::{Metrics, read_metrics};
+use crate::metrics::{Heights, Metrics, read_metrics};
 use crate::naming::{Legal, Names, Naming, read_naming};
 use crate::tables::{Tables, read_tables};
 use basics::{Name, NoMemory, Stop};
@@ -144,7 +144,11 @@ pub fn read(alloc: Global, value: &Value) -> Result<Info, Stop>
     check_dict(alloc, value)?;
     let metrics = read_metrics(alloc, value)?;
     let naming = read_naming(alloc, value)?;
-    let tables = read_tables(alloc, &metrics, value)?;
+    let Heights {
+        ascender,
+        descender,
+    } = metrics.heights;
+    let tables = read_tables(alloc, metrics.units, ascender, descender, value)?;
     Ok(info_from(&metrics, naming, tables))
 }
 

@@ -15,3 +15,6 @@ mod underline;
 
 pub use info::{Info, read};
 
+
+#[cfg(test)]
+mod tests;

@@ -1,14 +1,13 @@
 ghost use Rattle.std.specs.Prelude.{◌≡◌, IfOk};
 ghost use Rattle.basics.specs.Reading.{Gives};
 ghost use Rattle.plist.specs.Values.{plain_value};
-ghost use Rattle.fontinfo.specs.Metrics.{AreMetricsWithin};
+ghost use Rattle.fontinfo.specs.Ranges as range;
 ghost use Rattle.fontinfo.specs.Ranges.{IsWithin, metric};
 ghost use Rattle.fontinfo.specs.Tables as rules;
 ghost use Rattle.fontinfo.specs.Tables.{AreTablesWithin, IsOs2Within};
 
 use crate::classes::{Classes, Clipping, read_classes, read_clipping};
 use crate::lines::{Lines, read_hhea, read_typo};
-use crate::metrics::{Heights, Metrics};
 use crate::underline::{Underline, read_underline};
 use basics::Stop;
 use plist::Value;
@@ -54,20 +53,24 @@ fn read_os2(alloc: Global, ascender: i32, descender: i32, info: &Value) -> Resul
     })
 }
 
-/// What the tables `hhea`, `OS/2` and `post` say of a font with these metrics.
+/// What the tables `hhea`, `OS/2` and `post` say of a font with these units of the em, this ascender and this descender.
 #[tactic(auto, unfolding(crate::specs::Tables::tables_of))]
-pub(crate) fn read_tables(alloc: Global, metrics: &Metrics, info: &Value) -> Result<Tables, Stop>
-    requires { AreMetricsWithin metrics.now }
-    ensures exact { Gives (λ tables. tables) result (rules.tables_of metrics.now (plain_value info.now)) }
+pub(crate) fn read_tables(
+    alloc: Global,
+    units: i32,
+    ascender: i32,
+    descender: i32,
+    info: &Value,
+) -> Result<Tables, Stop>
+    requires em { IsWithin range.units units }
+    requires up { IsWithin metric ascender }
+    requires down { IsWithin metric descender }
+    ensures exact { Gives (λ tables. tables) result (rules.tables_of units ascender descender (plain_value info.now)) }
     ensures within { IfOk result AreTablesWithin }
 {
-    let Heights {
-        ascender,
-        descender,
-    } = metrics.heights;
     let hhea = read_hhea(alloc, ascender, descender, info)?;
     let os2 = read_os2(alloc, ascender, descender, info)?;
-    let underline = read_underline(alloc, metrics.units, info)?;
+    let underline = read_underline(alloc, units, info)?;
     Ok(Tables {
         hhea,
         os2,
