@@ -15,6 +15,5 @@ mod underline;
 
 pub use info::{Info, read};
 
-
 #[cfg(test)]
 mod tests;

@@ -85,7 +85,11 @@ fn read_legal(alloc: Global, numbers: Version, info: &Value) -> Result<Legal, St
     ensures { Gives (λ legal. legal) result (rules.legal_of numbers (plain_value info.now)) }
 {
     let copyright = text_if_there(alloc, COPYRIGHT_UNITS, Key::Copyright, info)?;
-    let made = version_text(alloc, numbers.major.unsigned_abs(), numbers.minor.unsigned_abs())?;
+    let made = version_text(
+        alloc,
+        numbers.major.unsigned_abs(),
+        numbers.minor.unsigned_abs(),
+    )?;
     let version = text_or(alloc, NAME_UNITS, made.as_str(), Key::NameVersion, info)?;
     Ok(Legal { copyright, version })
 }

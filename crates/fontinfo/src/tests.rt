@@ -1,9 +1,9 @@
 //! Each key right and wrong, by itself and beside its neighbour.
 
 use crate::{Info, read};
-use basics::{Name, Stop};
+use basics::{Name, NoMemory, Stop};
 use plist::Value;
-use std::alloc::{AllocError, Global};
+use std::alloc::Global;
 use std::fmt::Write;
 use std::test::Fail;
 
@@ -25,12 +25,24 @@ const READ: [(&str, &str); 45] = [
         "unitsPerEm=#16384.49",
         "units 16384;ascender 13107;descender -3276;x 8192;cap 11468;hhea 13107 -3276 0;typo 13107 -3276 0;underline -1638 819;",
     ),
-    ("ascender=#750", "ascender 750;hhea 750 -200 0;typo 750 -200 0;"),
+    (
+        "ascender=#750",
+        "ascender 750;hhea 750 -200 0;typo 750 -200 0;",
+    ),
     ("ascender=#0.5", "ascender 1;hhea 1 -200 0;typo 1 -200 0;"),
     ("ascender=#-0.5", "ascender 0;hhea 0 -200 0;typo 0 -200 0;"),
-    ("ascender=#32767.4", "ascender 32767;hhea 32767 -200 0;typo 32767 -200 0;"),
-    ("descender=#-250", "descender -250;hhea 800 -250 0;typo 800 -250 0;"),
-    ("descender=#-32767.5", "descender -32767;hhea 800 -32767 0;typo 800 -32767 0;"),
+    (
+        "ascender=#32767.4",
+        "ascender 32767;hhea 32767 -200 0;typo 32767 -200 0;",
+    ),
+    (
+        "descender=#-250",
+        "descender -250;hhea 800 -250 0;typo 800 -250 0;",
+    ),
+    (
+        "descender=#-32767.5",
+        "descender -32767;hhea 800 -32767 0;typo 800 -32767 0;",
+    ),
     ("xHeight=#480", "x 480;"),
     ("capHeight=# 650.5 ", "cap 651;"),
     ("italicAngle=#-12.5", "italic -819200;"),
@@ -43,9 +55,15 @@ const READ: [(&str, &str); 45] = [
     ("versionMajor=#-0.5", ""),
     ("versionMinor=#7", "minor 7;version Version 0.007;"),
     ("versionMinor=#998.5", "minor 999;version Version 0.999;"),
-    ("versionMajor=#12|versionMinor=#45", "major 12;minor 45;version Version 12.045;"),
+    (
+        "versionMajor=#12|versionMinor=#45",
+        "major 12;minor 45;version Version 12.045;",
+    ),
     ("copyright='(c) me", "copyright (c) me;"),
-    ("openTypeNameVersion='1.0 beta|versionMajor=#2", "major 2;version 1.0 beta;"),
+    (
+        "openTypeNameVersion='1.0 beta|versionMajor=#2",
+        "major 2;version 1.0 beta;",
+    ),
     ("openTypeHheaAscender=#900", "hhea 900 -200 0;"),
     ("openTypeHheaDescender=#-300", "hhea 800 -300 0;"),
     ("openTypeHheaLineGap=#90", "hhea 800 -200 90;"),
@@ -98,44 +116,107 @@ const REFUSED: [(&str, &str); 62] = [
     ("versionMinor=#-1", "NumberRange versionMinor 0 0 0 0"),
     ("copyright=#1", "NotPlist  0 0 0 0"),
     ("openTypeNameVersion=#1.0", "NotPlist  0 0 0 0"),
-    ("openTypeHheaAscender=#32768", "NumberRange openTypeHheaAscender 0 0 0 0"),
+    (
+        "openTypeHheaAscender=#32768",
+        "NumberRange openTypeHheaAscender 0 0 0 0",
+    ),
     ("openTypeHheaDescender='", "NotPlist  0 0 0 0"),
-    ("openTypeHheaLineGap=#a", "NotNumber openTypeHheaLineGap 0 0 0 0"),
+    (
+        "openTypeHheaLineGap=#a",
+        "NotNumber openTypeHheaLineGap 0 0 0 0",
+    ),
     ("openTypeOS2TypoAscender=!", "NotPlist  0 0 0 0"),
-    ("openTypeOS2TypoDescender=#-32767.6", "NumberRange openTypeOS2TypoDescender 0 0 0 0"),
-    ("openTypeOS2TypoLineGap=#.5", "NotNumber openTypeOS2TypoLineGap 0 0 0 0"),
-    ("openTypeOS2WinAscent=#-0.51", "NumberRange openTypeOS2WinAscent 0 0 0 0"),
+    (
+        "openTypeOS2TypoDescender=#-32767.6",
+        "NumberRange openTypeOS2TypoDescender 0 0 0 0",
+    ),
+    (
+        "openTypeOS2TypoLineGap=#.5",
+        "NotNumber openTypeOS2TypoLineGap 0 0 0 0",
+    ),
+    (
+        "openTypeOS2WinAscent=#-0.51",
+        "NumberRange openTypeOS2WinAscent 0 0 0 0",
+    ),
     ("openTypeOS2WinAscent='1", "NotPlist  0 0 0 0"),
-    ("openTypeOS2WinDescent=#-1", "NumberRange openTypeOS2WinDescent 0 0 0 0"),
-    ("openTypeOS2WinDescent=#32767.5", "NumberRange openTypeOS2WinDescent 0 0 0 0"),
-    ("openTypeOS2WeightClass=#0.49", "NumberRange openTypeOS2WeightClass 0 0 0 0"),
-    ("openTypeOS2WeightClass=#1000.5", "NumberRange openTypeOS2WeightClass 0 0 0 0"),
-    ("openTypeOS2WidthClass=#0", "NumberRange openTypeOS2WidthClass 0 0 0 0"),
-    ("openTypeOS2WidthClass=#9.5", "NumberRange openTypeOS2WidthClass 0 0 0 0"),
+    (
+        "openTypeOS2WinDescent=#-1",
+        "NumberRange openTypeOS2WinDescent 0 0 0 0",
+    ),
+    (
+        "openTypeOS2WinDescent=#32767.5",
+        "NumberRange openTypeOS2WinDescent 0 0 0 0",
+    ),
+    (
+        "openTypeOS2WeightClass=#0.49",
+        "NumberRange openTypeOS2WeightClass 0 0 0 0",
+    ),
+    (
+        "openTypeOS2WeightClass=#1000.5",
+        "NumberRange openTypeOS2WeightClass 0 0 0 0",
+    ),
+    (
+        "openTypeOS2WidthClass=#0",
+        "NumberRange openTypeOS2WidthClass 0 0 0 0",
+    ),
+    (
+        "openTypeOS2WidthClass=#9.5",
+        "NumberRange openTypeOS2WidthClass 0 0 0 0",
+    ),
     ("openTypeOS2VendorID=#1", "NotPlist  0 0 0 0"),
     ("openTypeOS2VendorID='", "BadTag  0 0 0 0"),
     ("openTypeOS2VendorID='abcde", "BadTag abcde 0 0 0 0"),
     ("openTypeOS2VendorID='\u{e9}", "BadTag \u{e9} 0 0 0 0"),
     ("openTypeOS2VendorID='a\t", "BadTag a\t 0 0 0 0"),
     ("openTypeOS2VendorID='\u{7f}", "BadTag \u{7f} 0 0 0 0"),
-    ("postscriptUnderlinePosition=#--1", "NotNumber postscriptUnderlinePosition 0 0 0 0"),
-    ("postscriptUnderlineThickness=#40000", "NumberRange postscriptUnderlineThickness 0 0 0 0"),
+    (
+        "postscriptUnderlinePosition=#--1",
+        "NotNumber postscriptUnderlinePosition 0 0 0 0",
+    ),
+    (
+        "postscriptUnderlineThickness=#40000",
+        "NumberRange postscriptUnderlineThickness 0 0 0 0",
+    ),
     // The first of two, which stands later in the dictionary.
     ("ascender=#x|unitsPerEm=#1", "UnitsRange  0 0 1 0"),
     ("xHeight=#x|descender=#x", "NotNumber descender 0 0 0 0"),
     ("italicAngle=#x|capHeight=#x", "NotNumber capHeight 0 0 0 0"),
-    ("familyName=#1|italicAngle=#x", "NotNumber italicAngle 0 0 0 0"),
-    ("versionMinor=#x|versionMajor=#x", "NotNumber versionMajor 0 0 0 0"),
-    ("copyright=#1|versionMinor=#x", "NotNumber versionMinor 0 0 0 0"),
-    ("openTypeOS2TypoAscender=#x|openTypeHheaLineGap=#x", "NotNumber openTypeHheaLineGap 0 0 0 0"),
-    ("openTypeOS2WinDescent=#x|openTypeOS2WinAscent=#x", "NotNumber openTypeOS2WinAscent 0 0 0 0"),
-    ("openTypeOS2WidthClass=#x|openTypeOS2WeightClass=#x", "NotNumber openTypeOS2WeightClass 0 0 0 0"),
-    ("openTypeOS2VendorID='|openTypeOS2WidthClass=#x", "NotNumber openTypeOS2WidthClass 0 0 0 0"),
-    ("postscriptUnderlineThickness=#x|postscriptUnderlinePosition=#x", "NotNumber postscriptUnderlinePosition 0 0 0 0"),
+    (
+        "familyName=#1|italicAngle=#x",
+        "NotNumber italicAngle 0 0 0 0",
+    ),
+    (
+        "versionMinor=#x|versionMajor=#x",
+        "NotNumber versionMajor 0 0 0 0",
+    ),
+    (
+        "copyright=#1|versionMinor=#x",
+        "NotNumber versionMinor 0 0 0 0",
+    ),
+    (
+        "openTypeOS2TypoAscender=#x|openTypeHheaLineGap=#x",
+        "NotNumber openTypeHheaLineGap 0 0 0 0",
+    ),
+    (
+        "openTypeOS2WinDescent=#x|openTypeOS2WinAscent=#x",
+        "NotNumber openTypeOS2WinAscent 0 0 0 0",
+    ),
+    (
+        "openTypeOS2WidthClass=#x|openTypeOS2WeightClass=#x",
+        "NotNumber openTypeOS2WeightClass 0 0 0 0",
+    ),
+    (
+        "openTypeOS2VendorID='|openTypeOS2WidthClass=#x",
+        "NotNumber openTypeOS2WidthClass 0 0 0 0",
+    ),
+    (
+        "postscriptUnderlineThickness=#x|postscriptUnderlinePosition=#x",
+        "NotNumber postscriptUnderlinePosition 0 0 0 0",
+    ),
 ];
 
 // The value that is written so.
-fn value_of(alloc: Global, written: &str) -> Result<Value, AllocError> {
+fn value_of(alloc: Global, written: &str) -> Result<Value, NoMemory> {
     if let Some(number) = written.strip_prefix('#') {
         return Ok(Value::Number(Name::from_str(alloc, number)?));
     }
@@ -146,7 +227,7 @@ fn value_of(alloc: Global, written: &str) -> Result<Value, AllocError> {
 }
 
 // The dictionary of these keys.
-fn dict_of(alloc: Global, written: &str) -> Result<Value, AllocError> {
+fn dict_of(alloc: Global, written: &str) -> Result<Value, NoMemory> {
     let mut entries = Vec::new(alloc);
     for entry in written.split('|') {
         if let Some((key, value)) = entry.split_once('=') {
@@ -158,12 +239,12 @@ fn dict_of(alloc: Global, written: &str) -> Result<Value, AllocError> {
 }
 
 // The fields of the information, those that go together in one.
-fn fields(alloc: Global, info: &Info) -> Result<Vec<String>, AllocError> {
+fn fields(alloc: Global, info: &Info) -> Result<Vec<String>, NoMemory> {
     let copyright = match &info.copyright {
         Some(text) => text.as_str(),
         None => "none",
     };
-    vec![in alloc;
+    let fields = vec![in alloc;
         format!(in alloc; "units {};", info.units)?,
         format!(in alloc; "ascender {};", info.ascender)?,
         format!(in alloc; "descender {};", info.descender)?,
@@ -176,24 +257,34 @@ fn fields(alloc: Global, info: &Info) -> Result<Vec<String>, AllocError> {
         format!(in alloc; "minor {};", info.minor)?,
         format!(in alloc; "copyright {copyright};")?,
         format!(in alloc; "version {};", info.version.as_str())?,
-        format!(in alloc; "hhea {} {} {};", info.hhea_ascender, info.hhea_descender, info.hhea_gap)?,
-        format!(in alloc; "typo {} {} {};", info.typo_ascender, info.typo_descender, info.typo_gap)?,
+        format!(in alloc;
+            "hhea {} {} {};",
+            info.hhea_ascender, info.hhea_descender, info.hhea_gap
+        )?,
+        format!(in alloc;
+            "typo {} {} {};",
+            info.typo_ascender, info.typo_descender, info.typo_gap
+        )?,
         format!(in alloc; "win {:?} {:?};", info.win_ascent, info.win_descent)?,
         format!(in alloc; "weight {};", info.weight)?,
         format!(in alloc; "width {};", info.width)?,
         format!(in alloc; "vendor {:?};", info.vendor.as_slice())?,
         format!(in alloc; "underline {} {};", info.underline_at, info.underline_size)?,
-    ]
+    ]?;
+    Ok(fields)
 }
 
 // What is read: the fields that differ from the plain ones, or the fault with its fields.
-fn outcome(alloc: Global, value: &Value, plain: &Info) -> Result<String, AllocError> {
+fn outcome(alloc: Global, value: &Value, plain: &Info) -> Result<String, NoMemory> {
     let mut line = String::new(alloc);
     match read(alloc, value) {
         Ok(info) => {
             let plain = fields(alloc, plain)?;
             for (i, field) in fields(alloc, &info)?.iter().enumerate() {
-                if plain.get(i).is_none_or(|other| other.as_str() != field.as_str()) {
+                if plain
+                    .get(i)
+                    .is_none_or(|other| other.as_str() != field.as_str())
+                {
                     line.push_str(field.as_str())?;
                 }
             }
@@ -201,7 +292,11 @@ fn outcome(alloc: Global, value: &Value, plain: &Info) -> Result<String, AllocEr
         Err(Stop::At(spot)) => {
             let kind = spot.kind.name();
             let item = spot.item.as_str();
-            write!(line, "{kind} {item} {} {} {} {}", spot.at, spot.also, spot.first, spot.second)?;
+            write!(
+                line,
+                "{kind} {item} {} {} {} {}",
+                spot.at, spot.also, spot.first, spot.second
+            )?;
         }
         Err(Stop::NoMemory) => line.push_str("no memory")?,
     }
