@@ -4,16 +4,16 @@ use Rattle.std.specs.List.{list_all}
 use Rattle.std.proofs.lemmas.Bool.{and_parts, and_from, cond-true}
 use Rattle.basics.specs.Bytes.{run_at, after_run, stops}
 
--- ---- a text is cut behind its run
+-- ---- a text is cut after its run
 
-front_step : (class : ℕ → Bool) (b : ℕ) (bytes : List ℕ) (is : Bool) → take (length (run_at class bytes)) bytes ≡ run_at class bytes → take (length (cond is (b ∷ run_at class bytes) [])) (b ∷ bytes) ≡ cond is (b ∷ run_at class bytes) []
-front_step class b bytes true later = ap (λ bs. b ∷ bs) later
-front_step class b bytes false later = refl
+prefix_step : (class : ℕ → Bool) (b : ℕ) (bytes : List ℕ) (is : Bool) → take (length (run_at class bytes)) bytes ≡ run_at class bytes → take (length (cond is (b ∷ run_at class bytes) [])) (b ∷ bytes) ≡ cond is (b ∷ run_at class bytes) []
+prefix_step class b bytes true later = ap (λ bs. b ∷ bs) later
+prefix_step class b bytes false later = refl
 
 -- so many bytes of the text are the run
-pub front_of_run : (class : ℕ → Bool) (bytes : List ℕ) → take (length (run_at class bytes)) bytes ≡ run_at class bytes
-front_of_run class [] = refl
-front_of_run class (b ∷ bytes) = front_step class b bytes (class b) (front_of_run class bytes)
+pub prefix_of_run : (class : ℕ → Bool) (bytes : List ℕ) → take (length (run_at class bytes)) bytes ≡ run_at class bytes
+prefix_of_run class [] = refl
+prefix_of_run class (b ∷ bytes) = prefix_step class b bytes (class b) (prefix_of_run class bytes)
 
 rest_step : (class : ℕ → Bool) (b : ℕ) (bytes : List ℕ) (is : Bool) → drop (length (run_at class bytes)) bytes ≡ after_run class bytes → drop (length (cond is (b ∷ run_at class bytes) [])) (b ∷ bytes) ≡ cond is (after_run class bytes) (b ∷ bytes)
 rest_step class b bytes true later = later

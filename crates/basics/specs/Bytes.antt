@@ -26,11 +26,11 @@ begins (m ∷ mark) [] = false
 begins (m ∷ mark) (b ∷ bytes) = (m == b) && begins mark bytes
 
 -- the first index from which on the bytes pass
-abbrev pub first_place : (List ℕ → Bool) → List ℕ → Option ℕ
-first_place test [] = None
-first_place test (b ∷ bytes) = if test (b ∷ bytes) then Some 0 else option_map (λ n. n + 1) (first_place test bytes)
+abbrev pub first_index : (List ℕ → Bool) → List ℕ → Option ℕ
+first_index test [] = None
+first_index test (b ∷ bytes) = if test (b ∷ bytes) then Some 0 else option_map (λ n. n + 1) (first_index test bytes)
 
 -- the first index of a byte
-abbrev pub place_of : ℕ → List ℕ → Option ℕ
-place_of byte [] = None
-place_of byte (b ∷ bytes) = if b == byte then Some 0 else option_map (λ n. n + 1) (place_of byte bytes)
+abbrev pub index_of : ℕ → List ℕ → Option ℕ
+index_of byte [] = None
+index_of byte (b ∷ bytes) = if b == byte then Some 0 else option_map (λ n. n + 1) (index_of byte bytes)

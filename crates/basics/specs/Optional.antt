@@ -13,8 +13,8 @@ each f [] = Some []
 each f (x ∷ xs) = f x >>= λ y. each f xs >>= λ ys. Some (y ∷ ys)
 
 -- what is read already, before what is still to be read
-abbrev pub with_front : {A : Type 0} → List A → Option (List A) → Option (List A)
-with_front front read = read >>= λ xs. Some (front ++ xs)
+abbrev pub with_prefix : {A : Type 0} → List A → Option (List A) → Option (List A)
+with_prefix prefix read = read >>= λ xs. Some (prefix ++ xs)
 
 -- a call agrees with the reading: it found the same, seen by view, or nothing as well
 abbrev pub Agrees : {X Y : Type 0} → (X → Y) → Option X → Option Y → Type 0

@@ -33,8 +33,8 @@ in_turn step state [] = Ok state
 in_turn step state (t ∷ ts) = step state t >>= λ next. in_turn step next ts
 
 -- what is read already, before what is still to be read
-abbrev pub with_front : {A F : Type 0} → List A → Result (List A) F → Result (List A) F
-with_front front read = read >>= λ xs. Ok (front ++ xs)
+abbrev pub with_prefix : {A F : Type 0} → List A → Result (List A) F → Result (List A) F
+with_prefix prefix read = read >>= λ xs. Ok (prefix ++ xs)
 
 -- a call answered the value that reading gives, seen by view, or a stop that fits the reading
 abbrev pub GivesBy : {X Y S F : Type 0} → (S → Result Y F → Type 0) → (X → Y) → Result X S → Result Y F → Type 0
@@ -50,7 +50,7 @@ Fails (At spot) reading = reading ≡ Err spot
 abbrev pub Gives : {X Y : Type 0} → (X → Y) → Result X Stop → Result Y Spot → Type 0
 Gives view result reading = GivesBy Fails view result reading
 
--- a fault with an item, a place and a value; the other fields are 0
+-- a fault with an item, an offset and a value; the other fields are 0
 abbrev pub spot_of : Kind → List ℕ → ℕ → ℤ → Spot
 spot_of kind item at first = record { kind = kind; item = item; at = at; also = 0; first = first; second = pos 0 }
 

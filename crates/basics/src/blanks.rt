@@ -10,7 +10,7 @@ pub fn is_blank(byte: u8) -> bool
     byte == b' ' || byte == b'\t' || byte == b'\n' || byte == b'\r'
 }
 
-/// The text without the blanks at its front.
+/// The text without the blanks at its start.
 pub fn after_blanks(text: &[u8]) -> &[u8]
     ensures { result.now ≡ after_run runs.is_blank text.now }
 {

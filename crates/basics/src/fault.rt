@@ -12,9 +12,9 @@ pub struct Spot {
     pub kind: Kind,
     /// The item concerned, as a glyph or an attribute.
     pub item: Name,
-    /// A place: a byte offset or a position counted from 0, by the kind.
+    /// A byte offset or an index, by the kind.
     pub at: u64,
-    /// A second place.
+    /// A second one.
     pub also: u64,
     /// A value that was met.
     pub first: i64,
@@ -40,7 +40,7 @@ pub enum Stop {
     NoMemory,
 }
 
-/// Stops at a fault with this item, place and value, its other fields being 0; or for want of memory for the
+/// Stops at a fault with this item, offset and value, its other fields being 0; or for want of memory for the
 /// item's text.
 pub fn stop_at(alloc: Global, kind: Kind, item: &str, at: u64, first: i64) -> Stop
     ensures { IsStop result (spot_of kind item.now at first) }

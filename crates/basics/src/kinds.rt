@@ -32,7 +32,7 @@ pub enum Kind {
     Curve = 13,
     /// A contour isn't closed.
     OpenContour = 14,
-    /// A point at the end of a line stands behind a point off the curve.
+    /// A point at the end of a line stands after a point off the curve.
     LineAfterOff = 15,
     /// A contour or a glyph has more points than the limit.
     TooManyPoints = 16,
@@ -74,7 +74,7 @@ pub enum Kind {
     MapOrder = 34,
     /// An axis map leads out of the range of numbers.
     MapRange = 35,
-    /// An axis map makes one place of several.
+    /// An axis map makes one coordinate of several.
     MapCollapse = 36,
     /// There are more sources than the limit.
     TooManySources = 37,

@@ -1,5 +1,5 @@
 //! The small types that every crate names: lists and texts as contracts see them, the kinds of refusal,
-//! the place of a fault, and why a reader stops. Beside them, in `specs/`, stand the words with which
+//! where a fault is, and why a reader stops. Beside them, in `specs/`, stand the words with which
 //! every definition of a reading is said: one reading after another, runs of bytes, blanks.
 #![tactic(auto)]
 

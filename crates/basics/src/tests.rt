@@ -21,6 +21,7 @@ fn names_and_lists(rt: HostRuntime) -> Result<(), Fail> {
         let name = Name::from_str(alloc, text)?;
         assert_eq!(rt; name.as_str(), text);
         let copy = name.try_copy(alloc)?;
+        assert_eq!(rt; copy.as_str(), name.as_str());
         assert!(rt; copy == name);
         names.push(name)?;
     }
@@ -32,9 +33,11 @@ fn names_and_lists(rt: HostRuntime) -> Result<(), Fail> {
 #[test]
 fn stops_and_blanks(rt: HostRuntime) -> Result<(), Fail> {
     let alloc = rt.alloc();
-    let Stop::At(spot) = stop_at(alloc, Kind::NotWhole, "x", 1042, -7) else {
-        return Err(Fail);
+    let spot = match stop_at(alloc, Kind::NotWhole, "x", 1042, -7) {
+        Stop::At(spot) => Some(spot),
+        Stop::NoMemory => None,
     };
+    let spot = spot.ok_or("no memory")?;
     assert_eq!(rt; spot.kind.name(), "NotWhole");
     assert_eq!(rt; spot.kind as u8, 11);
     assert_eq!(rt; spot.item.as_str(), "x");

@@ -1,8 +1,8 @@
 ghost use Rattle.std.specs.Prelude.{◌≡◌, List, [], ◌∷◌, ◌++◌, OnOk, OnErr};
 ghost use Rattle.std.specs.Int.{w16, w32, w64, cast_unsigned, to_be_bytes};
 
-use byteorder::{BigEndian, ByteOrder};
 use basics::NoMemory;
+use byteorder::{BigEndian, ByteOrder};
 
 /// Appends an 8-bit field. Where memory runs out, `out` is as before.
 pub fn put_u8(out: &mut Vec<u8>, value: u8) -> Result<(), NoMemory>

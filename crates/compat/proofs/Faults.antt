@@ -25,19 +25,19 @@ use Rattle.compat.proofs.Marking.{reaches_known}
 
 -- ---- no cycle
 
-goes_back : (graph : List (List ℕ)) (order : List ℕ) → IsOrder graph order → {from to : ℕ} → Reaches graph from to → (place : ℕ) → place < length order → slice_index order place ≡ from
-    → (before : ℕ) × (before < place) × (before < length order) × (slice_index order before ≡ to)
-goes_back graph order is {from} {to} (direct refers) place less here =
-    stands_before order place to (All-contains (Contains (take place order)) (bases_at graph (slice_index order place)) to (is.before place less) (subst (λ n. Contains (bases_at graph n) to) (sym here) refers))
-goes_back graph order is {from} {to} (onward {next} refers more) place less here =
-    let first = stands_before order place next (All-contains (Contains (take place order)) (bases_at graph (slice_index order place)) next (is.before place less) (subst (λ n. Contains (bases_at graph n) next) (sym here) refers)) in
+goes_back : (graph : List (List ℕ)) (order : List ℕ) → IsOrder graph order → {from to : ℕ} → Reaches graph from to → (index : ℕ) → index < length order → slice_index order index ≡ from
+    → (before : ℕ) × (before < index) × (before < length order) × (slice_index order before ≡ to)
+goes_back graph order is {from} {to} (direct refers) index less here =
+    stands_before order index to (All-contains (Contains (take index order)) (bases_at graph (slice_index order index)) to (is.before index less) (subst (λ n. Contains (bases_at graph n) to) (sym here) refers))
+goes_back graph order is {from} {to} (onward {next} refers more) index less here =
+    let first = stands_before order index next (All-contains (Contains (take index order)) (bases_at graph (slice_index order index)) next (is.before index less) (subst (λ n. Contains (bases_at graph n) next) (sym here) refers)) in
     let then = goes_back graph order is more first.0 first.2 first.3 in
     (then.0, omega (arith, then.1, first.1), then.2, then.3)
 
-never_back : (graph : List (List ℕ)) (order : List ℕ) → IsOrder graph order → (number : ℕ) → Reaches graph number number → (end place : ℕ) → place < end → place < length order → slice_index order place ≡ number → ⊥
-never_back graph order is number reaches zero place less within here = omega (arith, less)
-never_back graph order is number reaches (suc end) place less within here =
-    let back = goes_back graph order is reaches place within here in
+never_back : (graph : List (List ℕ)) (order : List ℕ) → IsOrder graph order → (number : ℕ) → Reaches graph number number → (end index : ℕ) → index < end → index < length order → slice_index order index ≡ number → ⊥
+never_back graph order is number reaches zero index less within here = omega (arith, less)
+never_back graph order is number reaches (suc end) index less within here =
+    let back = goes_back graph order is reaches index within here in
     never_back graph order is number reaches end back.0 (omega (arith, less, back.1)) back.2 back.3
 
 pub no_cycle : (graph : List (List ℕ)) (order : List ℕ) → IsOrder graph order → HasNoCycle graph
@@ -55,12 +55,12 @@ flat_fault_many contours is = rw is refl
 
 has_fault : (drawings : List Drawing) (bound : ℕ) (drawing : Drawing) (flat : Flat) → IsFlatOf drawings bound drawing flat → HasFlatFault drawings drawing (kept_fault flat)
 has_fault drawings bound drawing Unknown kept = absurd kept
-has_fault drawings bound drawing (Few contours) kept = record { contours = contours; flattened = kept.0; is = flat_fault_few contours _ refl (le-leb _ _ kept.1) }
+has_fault drawings bound drawing (Few contours points) kept = record { contours = contours; flattened = kept.0; is = flat_fault_few contours _ refl (le-leb _ _ kept.1) }
 has_fault drawings bound drawing (Many count) kept = record { contours = kept.0; flattened = kept.1; is = flat_fault_many kept.0 (lt-leb _ _ kept.2) ∙ ap (λ n. Some (TooManyPoints, pos n)) (sym kept.3) }
 
 is_counted : (drawings : List Drawing) (bound : ℕ) (drawing : Drawing) (flat : Flat) → IsFlatOf drawings bound drawing flat → IsCounted flat
 is_counted drawings bound drawing Unknown kept = absurd kept
-is_counted drawings bound drawing (Few contours) kept = tt
+is_counted drawings bound drawing (Few contours points) kept = tt
 is_counted drawings bound drawing (Many count) kept = let c = kept.3 in omega (arith, c)
 
 pub all_counted : (drawings : List Drawing) (flats : List Flat) → AreKept drawings flats → All IsCounted flats
@@ -88,22 +88,22 @@ no_fault count (flat ∷ flats) none =
 
 -- where the first fault is, and which
 record IsFoundAt (count : ℕ) (flats : List Flat) (refusal : Refusal) : Type 0 where
-  place : ℕ
-  within : place < length flats
+  index : ℕ
+  within : index < length flats
   fault : Kind × ℤ
-  is : refusal ≡ refusal_of (count + place) fault
-  found : kept_fault (get_or flats place Unknown) ≡ Some fault
-  before : (other : ℕ) → other < place → kept_fault (get_or flats other Unknown) ≡ None
+  is : refusal ≡ refusal_of (count + index) fault
+  found : kept_fault (get_or flats index Unknown) ≡ Some fault
+  before : (other : ℕ) → other < index → kept_fault (get_or flats other Unknown) ≡ None
 
-before_step : (first : Flat) (flats : List Flat) (place : ℕ) → kept_fault first ≡ None → ((other : ℕ) → other < place → kept_fault (get_or flats other Unknown) ≡ None)
-    → (other : ℕ) → other < suc place → kept_fault (get_or (first ∷ flats) other Unknown) ≡ None
-before_step first flats place none before zero less = none
-before_step first flats place none before (suc other) less = before other (omega (arith, less))
+before_step : (first : Flat) (flats : List Flat) (index : ℕ) → kept_fault first ≡ None → ((other : ℕ) → other < index → kept_fault (get_or flats other Unknown) ≡ None)
+    → (other : ℕ) → other < suc index → kept_fault (get_or (first ∷ flats) other Unknown) ≡ None
+before_step first flats index none before zero less = none
+before_step first flats index none before (suc other) less = before other (omega (arith, less))
 
 found_step : (count : ℕ) (first : Flat) (flats : List Flat) (refusal : Refusal) → (fault_from (count + 1) flats ≡ Some refusal → IsFoundAt (count + 1) flats refusal)
     → (fault : Option (Kind × ℤ)) → kept_fault first ≡ fault → option_or (option_map (refusal_of count) fault) (fault_from (count + 1) flats) ≡ Some refusal → IsFoundAt count (first ∷ flats) refusal
 found_step count first flats refusal more (Some fault) is some = record {
-  place = 0;
+  index = 0;
   within = omega arith;
   fault = fault;
   is = sym (same_Some _ _ some) ∙ ap (λ n. refusal_of n fault) (omega arith);
@@ -114,12 +114,12 @@ found_step count first flats refusal more None is some =
     let rest = more some in
     let less = rest.within in
     record {
-      place = suc rest.place;
+      index = suc rest.index;
       within = omega (arith, less);
       fault = rest.fault;
       is = rest.is ∙ ap (λ n. refusal_of n rest.fault) (omega arith);
       found = rest.found;
-      before = λ other less. before_step first flats rest.place is rest.before other less;
+      before = λ other less. before_step first flats rest.index is rest.before other less;
     }
 
 found_at : (count : ℕ) (flats : List Flat) (refusal : Refusal) → fault_from count flats ≡ Some refusal → IsFoundAt count flats refusal
@@ -130,12 +130,12 @@ pub first_refusal : (drawings : List Drawing) (flats : List Flat) (refusal : Ref
 first_refusal drawings flats refusal kept none acyclic some =
     let at = found_at 0 flats refusal some in
     let within = at.within in
-    let known : at.place < length drawings = omega (arith, within, kept.sizes) in
-    let here = slice_get-get_or drawings at.place blank known in
-    let number : 0 + at.place ≡ at.place = omega arith in
+    let known : at.index < length drawings = omega (arith, within, kept.sizes) in
+    let here = slice_get-get_or drawings at.index blank known in
+    let number : 0 + at.index ≡ at.index = omega arith in
     subst (IsFirstRefusal drawings) (sym (at.is ∙ ap (λ n. refusal_of n at.fault) number))
     (flat_refusal none acyclic here
-    (subst (HasFlatFault drawings (get_or drawings at.place blank)) at.found (has_fault drawings kept.bound (get_or drawings at.place blank) (get_or flats at.place Unknown) (kept.each at.place known (get_or drawings at.place blank) here)))
+    (subst (HasFlatFault drawings (get_or drawings at.index blank)) at.found (has_fault drawings kept.bound (get_or drawings at.index blank) (get_or flats at.index Unknown) (kept.each at.index known (get_or drawings at.index blank) here)))
     (λ other drawing less stands. subst (HasFlatFault drawings drawing) (at.before other less)
     (has_fault drawings kept.bound drawing (get_or flats other Unknown) (kept.each other (slice_get_within drawings other drawing stands) drawing stands))))
 
@@ -143,7 +143,7 @@ first_refusal drawings flats refusal kept none acyclic some =
 
 few_of : (drawings : List Drawing) (bound : ℕ) (drawing : Drawing) (flat : Flat) → IsFlatOf drawings bound drawing flat → kept_fault flat ≡ None → IsFew flat
 few_of drawings bound drawing Unknown kept none = absurd kept
-few_of drawings bound drawing (Few contours) kept none = tt
+few_of drawings bound drawing (Few contours points) kept none = tt
 few_of drawings bound drawing (Many count) kept none = cc
 
 pub all_few : (drawings : List Drawing) (flats : List Flat) → AreKept drawings flats → fault_from 0 flats ≡ None → All IsFew flats
@@ -154,7 +154,7 @@ all_few drawings flats kept none =
 
 flat_outline : (drawings : List Drawing) (bound : ℕ) (drawing : Drawing) (flat : Flat) → IsFlatOf drawings bound drawing flat → kept_fault flat ≡ None → IsFlatOutline drawings drawing (record { advance = drawing.outline.advance; contours = flat_contours flat })
 flat_outline drawings bound drawing Unknown kept none = absurd kept
-flat_outline drawings bound drawing (Few contours) kept none = record { advance = refl; flattened = kept.0; within = flat_fault_few contours _ refl (le-leb _ _ kept.1) ∙ none }
+flat_outline drawings bound drawing (Few contours points) kept none = record { advance = refl; flattened = kept.0; within = flat_fault_few contours _ refl (le-leb _ _ kept.1) ∙ none }
 flat_outline drawings bound drawing (Many count) kept none = cc
 
 zip_outlines : (all : List Drawing) (bound : ℕ) (drawings : List Drawing) (flats : List Flat) → length flats ≡ length drawings
@@ -192,7 +192,7 @@ first_few kept flats rest next few = let all = subst (All IsFew) next few in (Al
 -- ---- which drawing has the fault
 
 dangling_known_step : (count rest : ℕ) (refusal : Refusal) (found : Option ℕ) (more : Option Refusal) → (more ≡ Some refusal → refusal.drawing < count + 1 + rest) → option_or (option_map (dangling_refusal count) found) more ≡ Some refusal → refusal.drawing < count + suc rest
-dangling_known_step count rest refusal (Some place) more less some = let is = ap (λ (r : Refusal). r.drawing) (same_Some _ _ some) in omega (arith, is)
+dangling_known_step count rest refusal (Some index) more less some = let is = ap (λ (r : Refusal). r.drawing) (same_Some _ _ some) in omega (arith, is)
 dangling_known_step count rest refusal None more less some = let l = less some in omega (arith, l)
 
 dangling_known : (number : List ℕ → Option ℕ) (count : ℕ) (drawings : List Drawing) (refusal : Refusal) → dangling_from number count drawings ≡ Some refusal → refusal.drawing < count + length drawings

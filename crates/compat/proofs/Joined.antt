@@ -5,7 +5,7 @@ use Rattle.std.proofs.lemmas.List.{drop_more}
 use Rattle.glif.specs.declared.shape.Point.{Point}
 use Rattle.glif.specs.declared.shape.Component.{Component}
 use Rattle.compat.specs.Flattened.{moved_contours}
-use Rattle.compat.specs.Flats.{CanMove, flat_at, flat_contours, placed_contours, AreMovable}
+use Rattle.compat.specs.Flats.{CanMove, flat_at, flat_contours, drawn_contours, AreMovable}
 use Rattle.compat.specs.declared.flat.Flat.{Flat}
 
 components_at : (components items : List Component) (i : ℕ) (component : Component) → items ≡ components → i < length items → component ≡ get_or items i component → drop i components ≡ component ∷ drop (i + 1) components
@@ -21,11 +21,11 @@ movable_here flats components items bases i component base same less within is b
     subst (λ b. AreMovable flats (component ∷ drop (i + 1) components) b) (bases_from bases i base within base_is)
     (subst (λ c. AreMovable flats c (drop i bases)) (components_at components items i component same less is) movable)
 
-pub placed_more : (flats : List Flat) (components items : List Component) (bases : List ℕ) (i : ℕ) (component : Component) (base : ℕ) → items ≡ components → i < length items → i < length bases → component ≡ get_or items i component → base ≡ get_or bases i 0
-    → (contours new_contours whole : List (List Point)) → contours ++ placed_contours flats (drop i components) (drop i bases) ≡ whole → new_contours ≡ contours ++ moved_contours component (flat_contours (flat_at flats base))
-    → new_contours ++ placed_contours flats (drop (i + 1) components) (drop (i + 1) bases) ≡ whole
-placed_more flats components items bases i component base same less within is base_is contours new_contours whole before longer =
-    ap (λ c. c ++ placed_contours flats (drop (i + 1) components) (drop (i + 1) bases)) longer
+pub drawn_more : (flats : List Flat) (components items : List Component) (bases : List ℕ) (i : ℕ) (component : Component) (base : ℕ) → items ≡ components → i < length items → i < length bases → component ≡ get_or items i component → base ≡ get_or bases i 0
+    → (contours new_contours whole : List (List Point)) → contours ++ drawn_contours flats (drop i components) (drop i bases) ≡ whole → new_contours ≡ contours ++ moved_contours component (flat_contours (flat_at flats base))
+    → new_contours ++ drawn_contours flats (drop (i + 1) components) (drop (i + 1) bases) ≡ whole
+drawn_more flats components items bases i component base same less within is base_is contours new_contours whole before longer =
+    ap (λ c. c ++ drawn_contours flats (drop (i + 1) components) (drop (i + 1) bases)) longer
     ∙ rw append_assoc
-    (subst (λ b. contours ++ placed_contours flats (component ∷ drop (i + 1) components) b ≡ whole) (bases_from bases i base within base_is)
-    (subst (λ c. contours ++ placed_contours flats c (drop i bases) ≡ whole) (components_at components items i component same less is) before))
+    (subst (λ b. contours ++ drawn_contours flats (component ∷ drop (i + 1) components) b ≡ whole) (bases_from bases i base within base_is)
+    (subst (λ c. contours ++ drawn_contours flats c (drop i bases) ≡ whole) (components_at components items i component same less is) before))

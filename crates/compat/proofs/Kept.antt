@@ -16,8 +16,8 @@ use Rattle.glif.specs.declared.shape.Outline.{Outline}
 use Rattle.glif.specs.declared.shape.Component.{Component}
 use Rattle.glif.specs.declared.shape.Drawing.{Drawing}
 use Rattle.compat.specs.Names.{number_of, dangling_in, dangling_refusal, dangling_from}
-use Rattle.compat.specs.Flattened.{moved, moved_contours, ArePlaced, nothing, placed}
-use Rattle.compat.specs.Flats.{IsPointNear, AreNear, IsFlatOf, IsKept, CanMove, flat_at, flat_contours, flat_count, joint_count, placed_contours, AreMovable, joined_flat}
+use Rattle.compat.specs.Flattened.{moved, moved_contours, AreDrawn, nothing, drawn}
+use Rattle.compat.specs.Flats.{IsPointNear, AreNear, IsFlatOf, IsKept, CanMove, flat_at, flat_contours, flat_count, joint_count, drawn_contours, AreMovable, joined_flat}
 use Rattle.compat.specs.declared.flat.Flat.{Flat}
 use Rattle.compat.specs.declared.flat.Flat.TheVariants.{Unknown, Few, Many}
 
@@ -105,19 +105,19 @@ sum_moved component (points ∷ contours) =
 
 record IsBase (drawings : List Drawing) (bound : ℕ) (component : Component) (base : Drawing) (flat : Flat) : Type 0 where
   below : List (List Point)
-  placed_below : ArePlaced drawings base.components below
+  drawn_below : AreDrawn drawings base.components below
   count : min (sum_by length (moved_contours component (base.outline.contours ++ below))) 1000000000 ≡ min (flat_count flat) 1000000000
   few : flat_count flat ≤ 4000 → (moved_contours component (base.outline.contours ++ below) ≡ moved_contours component (flat_contours flat)) × AreNear (bound + 1) (moved_contours component (base.outline.contours ++ below))
 
 one_base : (drawings : List Drawing) (bound : ℕ) (component : Component) (base : Drawing) → IsOffsetWithin component → (flat : Flat) → IsFlatOf drawings bound base flat → IsBase drawings bound component base flat
 one_base drawings bound component base offset Unknown kept = absurd kept
-one_base drawings bound component base offset (Few contours) kept =
+one_base drawings bound component base offset (Few contours points) kept =
     let moved_sum = sum_moved component (base.outline.contours ++ kept.0.below) in
     let whole = ap (sum_by length) kept.0.whole in
     record {
       below = kept.0.below;
-      placed_below = kept.0.placed_below;
-      count = omega (arith, moved_sum, whole);
+      drawn_below = kept.0.drawn_below;
+      count = omega (arith, moved_sum, whole, kept.3);
       few = λ small. (ap (moved_contours component) (sym kept.0.whole), subst (λ c. AreNear (bound + 1) (moved_contours component c)) kept.0.whole (all_near_moved component bound offset contours kept.2));
     }
 one_base drawings bound component base offset (Many points) kept =
@@ -125,7 +125,7 @@ one_base drawings bound component base offset (Many points) kept =
     let whole = ap (sum_by length) kept.1.whole in
     record {
       below = kept.1.below;
-      placed_below = kept.1.placed_below;
+      drawn_below = kept.1.drawn_below;
       count = omega (arith, moved_sum, whole, kept.3);
       few = λ small. absurd (omega (arith, small, kept.2, kept.3));
     }
@@ -137,16 +137,16 @@ count_all flats bases = sum_by (λ base. flat_count (flat_at flats base)) bases
 
 pub record IsPlacing (drawings : List Drawing) (flats : List Flat) (bound : ℕ) (components : List Component) (bases : List ℕ) : Type 0 where
   pub contours : List (List Point)
-  pub placed_all : ArePlaced drawings components contours
+  pub drawn_all : AreDrawn drawings components contours
   pub count : min (sum_by length contours) 1000000000 ≡ min (count_all flats bases) 1000000000
-  pub few : count_all flats bases ≤ 4000 → (contours ≡ placed_contours flats components bases) × AreNear (bound + 1) contours
+  pub few : count_all flats bases ≤ 4000 → (contours ≡ drawn_contours flats components bases) × AreNear (bound + 1) contours
 
 abbrev pub IsBaseOf : List Drawing → Component → ℕ → Type 0
 IsBaseOf drawings component number = number_of drawings component.base ≡ Some number
 
 pub placing : (drawings : List Drawing) (flats : List Flat) (bound : ℕ) (components : List Component) (bases : List ℕ) → AllZip (IsBaseOf drawings) components bases → All IsOffsetWithin components
     → All (IsKept drawings bound flats) bases → IsPlacing drawings flats bound components bases
-placing drawings flats bound [] [] named offsets kept = record { contours = []; placed_all = nothing; count = refl; few = λ small. (refl, All-nil (All (IsPointNear (bound + 1)))) }
+placing drawings flats bound [] [] named offsets kept = record { contours = []; drawn_all = nothing; count = refl; few = λ small. (refl, All-nil (All (IsPointNear (bound + 1)))) }
 placing drawings flats bound [] (number ∷ bases) named offsets kept = absurd named
 placing drawings flats bound (component ∷ components) [] named offsets kept = absurd named
 placing drawings flats bound (component ∷ components) (number ∷ bases) named offsets kept =
@@ -158,7 +158,7 @@ placing drawings flats bound (component ∷ components) (number ∷ bases) named
     let counts = sum_by-cons (λ base. flat_count (flat_at flats base)) number bases in
     record {
       contours = moved_contours component (base.outline.contours ++ first.below) ++ more.contours;
-      placed_all = placed (record { number = number; named = named.0; stands = stands }) first.placed_below more.placed_all;
+      drawn_all = drawn (record { number = number; named = named.0; stands = stands }) first.drawn_below more.drawn_all;
       count = omega (arith, sums, counts, first.count, more.count);
       few = λ small. let here = first.few (omega (arith, small, counts)) in let there = more.few (omega (arith, small, counts)) in (
         ap (λ c. c ++ more.contours) here.0 ∙ ap (λ c. moved_contours component (flat_contours (flat_at flats number)) ++ c) there.0,
@@ -170,21 +170,22 @@ placing drawings flats bound (component ∷ components) (number ∷ bases) named
 
 joined_by : (drawings : List Drawing) (flats : List Flat) (bound : ℕ) (drawing : Drawing) (bases : List ℕ) → IsPlacing drawings flats bound drawing.components bases → AreNear 1 drawing.outline.contours
     → (test : Bool) → nat_le (joint_count flats drawing.outline.contours bases) 4000 ≡ test
-    → IsFlatOf drawings (bound + 1) drawing (cond test (Few (drawing.outline.contours ++ placed_contours flats drawing.components bases)) (Many (joint_count flats drawing.outline.contours bases)))
+    → IsFlatOf drawings (bound + 1) drawing (cond test (Few (drawing.outline.contours ++ drawn_contours flats drawing.components bases) (joint_count flats drawing.outline.contours bases)) (Many (joint_count flats drawing.outline.contours bases)))
 joined_by drawings flats bound drawing bases placing own true is =
     let small = leb-true (joint_count flats drawing.outline.contours bases) 4000 is in
     let few = placing.few (omega (arith, small)) in
-    let whole : drawing.outline.contours ++ placed_contours flats drawing.components bases ≡ drawing.outline.contours ++ placing.contours = ap (λ c. drawing.outline.contours ++ c) (sym few.0) in
+    let whole : drawing.outline.contours ++ drawn_contours flats drawing.components bases ≡ drawing.outline.contours ++ placing.contours = ap (λ c. drawing.outline.contours ++ c) (sym few.0) in
     let sums = ap (sum_by length) whole ∙ sum_by-append length drawing.outline.contours placing.contours in (
-      record { below = placing.contours; placed_below = placing.placed_all; whole = whole },
+      record { below = placing.contours; drawn_below = placing.drawn_all; whole = whole },
       omega (arith, small, sums, placing.count),
       subst (AreNear (bound + 1)) (sym whole) (All-append (All (IsPointNear (bound + 1))) drawing.outline.contours placing.contours (all_nearer 1 (bound + 1) (omega arith) drawing.outline.contours own) few.1),
+      omega (arith, small, sums, placing.count),
     )
 joined_by drawings flats bound drawing bases placing own false is =
     let large = leb-false (joint_count flats drawing.outline.contours bases) 4000 is in
     let sums = sum_by-append length drawing.outline.contours placing.contours in (
       drawing.outline.contours ++ placing.contours,
-      record { below = placing.contours; placed_below = placing.placed_all; whole = refl },
+      record { below = placing.contours; drawn_below = placing.drawn_all; whole = refl },
       omega (arith, large, sums, placing.count),
       omega (arith, sums, placing.count),
     )
@@ -198,7 +199,7 @@ kept_joined drawings flats bound drawing bases named offsets within kept =
 
 flat_can_move : (drawings : List Drawing) (bound : ℕ) (component : Component) (base : Drawing) → bound ≤ 32510 → IsOffsetWithin component → (flat : Flat) → IsFlatOf drawings bound base flat → All (All (CanMove component)) (flat_contours flat)
 flat_can_move drawings bound component base few offset Unknown kept = absurd kept
-flat_can_move drawings bound component base few offset (Few contours) kept = all_can_move component bound few offset contours kept.2
+flat_can_move drawings bound component base few offset (Few contours points) kept = all_can_move component bound few offset contours kept.2
 flat_can_move drawings bound component base few offset (Many points) kept = All-nil (All (CanMove component))
 
 pub all_movable : (drawings : List Drawing) (flats : List Flat) (bound : ℕ) (components : List Component) (bases : List ℕ) → bound ≤ 32510 → AllZip (IsBaseOf drawings) components bases → All IsOffsetWithin components

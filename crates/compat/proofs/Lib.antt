@@ -1,9 +1,12 @@
 pub mod Alike
-mod Steps
-mod Marking
-mod Named
+mod Faults
 mod Joined
 mod Kept
 mod Made
-mod Faults
+mod Marking
+mod Named
+mod Spreading
+mod Steps
+mod Stopping
+mod Tours
 mod Unique

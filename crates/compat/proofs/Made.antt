@@ -64,53 +64,53 @@ movable_at drawings flats number drawing bases fit none known is same has =
 
 -- ---- the order
 
-pub stands_before : (order : List ℕ) (place base : ℕ) → Contains (take place order) base → (before : ℕ) × (before < place) × (before < length order) × (slice_index order before ≡ base)
-stands_before order place base stands =
+pub stands_before : (order : List ℕ) (index base : ℕ) → Contains (take index order) base → (before : ℕ) × (before < index) × (before < length order) × (slice_index order before ≡ base)
+stands_before order index base stands =
     let less = stands.1 in
-    let short : stands.0 < place = grind (arith, common_steps, less) in
+    let short : stands.0 < index = grind (arith, common_steps, less) in
     let within : stands.0 < length order = grind (arith, common_steps, less) in
-    (stands.0, short, within, get_or_default order stands.0 0 base within ∙ sym (get_or-take place order stands.0 base short) ∙ stands.2)
+    (stands.0, short, within, get_or_default order stands.0 0 base within ∙ sym (get_or-take index order stands.0 base short) ∙ stands.2)
 
-pub bases_kept : (drawings : List Drawing) (graph : List (List ℕ)) (order : List ℕ) (flats : List Flat) (place : ℕ) → IsOrder graph order → place < length order
-    → ((before : ℕ) → before < place → IsKept drawings place flats (slice_index order before)) → All (IsKept drawings place flats) (bases_at graph (slice_index order place))
-bases_kept drawings graph order flats place is less kept =
-    All-weaker (Contains (take place order)) (IsKept drawings place flats)
-    (λ base stands. let found = stands_before order place base stands in subst (IsKept drawings place flats) found.3 (kept found.0 found.1))
-    (bases_at graph (slice_index order place)) (is.before place less)
+pub bases_kept : (drawings : List Drawing) (graph : List (List ℕ)) (order : List ℕ) (flats : List Flat) (index : ℕ) → IsOrder graph order → index < length order
+    → ((before : ℕ) → before < index → IsKept drawings index flats (slice_index order before)) → All (IsKept drawings index flats) (bases_at graph (slice_index order index))
+bases_kept drawings graph order flats index is less kept =
+    All-weaker (Contains (take index order)) (IsKept drawings index flats)
+    (λ base stands. let found = stands_before order index base stands in subst (IsKept drawings index flats) found.3 (kept found.0 found.1))
+    (bases_at graph (slice_index order index)) (is.before index less)
 
 later : (drawings : List Drawing) (low high : ℕ) (drawing : Drawing) → low ≤ high → (flat : Flat) → IsFlatOf drawings low drawing flat → IsFlatOf drawings high drawing flat
 later drawings low high drawing less Unknown kept = absurd kept
-later drawings low high drawing less (Few contours) kept = (kept.0, kept.1, all_nearer low high less contours kept.2)
+later drawings low high drawing less (Few contours points) kept = (kept.0, kept.1, all_nearer low high less contours kept.2, kept.3)
 later drawings low high drawing less (Many count) kept = kept
 
-pub made_more : (drawings : List Drawing) (order : List ℕ) (flats : List Flat) (place number : ℕ) (flat : Flat) → AreFit drawings → first_dangling drawings ≡ None → number ≡ slice_index order place → number < length drawings → length flats ≡ length drawings
-    → ((before : ℕ) → before < place → IsKept drawings place flats (slice_index order before)) → All (IsKept drawings place flats) (bases_at (references drawings) number) → IsJoined drawings (references drawings) flats number flat
-    → (before : ℕ) → before < place + 1 → IsKept drawings (place + 1) (set flats number flat) (slice_index order before)
-made_more drawings order flats place number flat fit none is known sizes kept bases joined before less drawing stands =
+pub made_more : (drawings : List Drawing) (order : List ℕ) (flats : List Flat) (index number : ℕ) (flat : Flat) → AreFit drawings → first_dangling drawings ≡ None → number ≡ slice_index order index → number < length drawings → length flats ≡ length drawings
+    → ((before : ℕ) → before < index → IsKept drawings index flats (slice_index order before)) → All (IsKept drawings index flats) (bases_at (references drawings) number) → IsJoined drawings (references drawings) flats number flat
+    → (before : ℕ) → before < index + 1 → IsKept drawings (index + 1) (set flats number flat) (slice_index order before)
+made_more drawings order flats index number flat fit none is known sizes kept bases joined before less drawing stands =
     elim (cases_eq (slice_index order before) number) [
       | inl e ↦
           let here : slice_get drawings number ≡ Some drawing = subst (λ n. slice_get drawings n ≡ Some drawing) e stands in
           let d : get_or drawings number blank ≡ drawing = get_or_from_slice_get drawings number drawing blank here in
-          let made = kept_joined drawings flats place drawing (bases_at (references drawings) number) (subst (λ (d : Drawing). AllZip (IsBaseOf drawings) d.components (bases_at (references drawings) number)) d (named_at drawings number none known))
+          let made = kept_joined drawings flats index drawing (bases_at (references drawings) number) (subst (λ (d : Drawing). AllZip (IsBaseOf drawings) d.components (bases_at (references drawings) number)) d (named_at drawings number none known))
           (subst (λ (d : Drawing). All IsOffsetWithin d.components) d (fit.offsets number blank known)) (subst (λ (d : Drawing). IsWithinLimits d.outline) d (fit.within number blank known)) bases in
           let same = ap (λ n. slice_index_or (set flats number flat) n Unknown) e ∙ get_or-set_same flats number flat Unknown (omega (arith, known, sizes)) in
-          subst (IsFlatOf drawings (place + 1) drawing) (sym (same ∙ joined drawing here)) made
+          subst (IsFlatOf drawings (index + 1) drawing) (sym (same ∙ joined drawing here)) made
       | inr apart ↦
-          let short : before < place = elim (cases_eq before place) [ inl e ↦ absurd (apart (ap (slice_index order) e ∙ sym is)) | inr other ↦ omega (arith, less, other) ] in
-          subst (IsFlatOf drawings (place + 1) drawing) (sym (get_or-set_other flats number (slice_index order before) flat Unknown apart))
-          (later drawings place (place + 1) drawing (omega arith) (slice_index_or flats (slice_index order before) Unknown) (kept before short drawing stands))
+          let short : before < index = elim (cases_eq before index) [ inl e ↦ absurd (apart (ap (slice_index order) e ∙ sym is)) | inr other ↦ omega (arith, less, other) ] in
+          subst (IsFlatOf drawings (index + 1) drawing) (sym (get_or-set_other flats number (slice_index order before) flat Unknown apart))
+          (later drawings index (index + 1) drawing (omega arith) (slice_index_or flats (slice_index order before) Unknown) (kept before short drawing stands))
     ]
 
-pub all_kept : (drawings : List Drawing) (order : List ℕ) (flats : List Flat) (place : ℕ) → IsOrder (references drawings) order → length order ≤ place → length flats ≡ length drawings
-    → ((before : ℕ) → before < place → IsKept drawings place flats (slice_index order before)) → AreKept drawings flats
-all_kept drawings order flats place is ends sizes kept = record {
+pub all_kept : (drawings : List Drawing) (order : List ℕ) (flats : List Flat) (index : ℕ) → IsOrder (references drawings) order → length order ≤ index → length flats ≡ length drawings
+    → ((before : ℕ) → before < index → IsKept drawings index flats (slice_index order before)) → AreKept drawings flats
+all_kept drawings order flats index is ends sizes kept = record {
   sizes = sizes;
-  bound = place;
+  bound = index;
   each = λ number known.
       let lengths : length (references drawings) ≡ length drawings = simp length-map in
       let stands = is.each number (omega (arith, lengths, known)) in
       let less = stands.1 in
-      subst (IsKept drawings place flats) (get_or_default order stands.0 0 number stands.1 ∙ stands.2) (kept stands.0 (omega (arith, less, ends)));
+      subst (IsKept drawings index flats) (get_or_default order stands.0 0 number stands.1 ∙ stands.2) (kept stands.0 (omega (arith, less, ends)));
 }
 
 -- ---- as the calls have it

@@ -44,7 +44,7 @@ no_markings bases marked waiting = record {
   work = refl;
 }
 
-keeps_one : (base : ℕ) (marked : List Bool) (waiting : List ℕ) (new_marked : List Bool) (new_waiting : List ℕ) → IsMarking base marked waiting new_marked new_waiting → (number : ℕ) → is_marked marked number ≡ true → is_marked new_marked number ≡ true
+pub keeps_one : (base : ℕ) (marked : List Bool) (waiting : List ℕ) (new_marked : List Bool) (new_waiting : List ℕ) → IsMarking base marked waiting new_marked new_waiting → (number : ℕ) → is_marked marked number ≡ true → is_marked new_marked number ≡ true
 keeps_one base marked waiting new_marked new_waiting marking number was =
     elim (cases_eq number base) [ inl e ↦ ap (is_marked new_marked) e ∙ marking.here | inr apart ↦ marking.there number apart ∙ was ]
 
@@ -80,7 +80,7 @@ all_more marked waiting base new_marked new_waiting bases one all =
 
 -- ---- the search
 
-none_marked : (graph : List (List ℕ)) (count number : ℕ) → is_marked (replicate count false) number ≡ false
+pub none_marked : (graph : List (List ℕ)) (count number : ℕ) → is_marked (replicate count false) number ≡ false
 none_marked graph zero number = refl
 none_marked graph (suc count) zero = refl
 none_marked graph (suc count) (suc number) = none_marked graph count number
@@ -141,7 +141,7 @@ search_goes graph start marked waiting rest next new_marked new_waiting closed s
           ];
     }
 
-marked_on : (graph : List (List ℕ)) (start : ℕ) (marked : List Bool) → ((number : ℕ) → (number ≡ start) ⊎ (is_marked marked number ≡ true) → All (λ base. is_marked marked base ≡ true) (bases_at graph number))
+pub marked_on : (graph : List (List ℕ)) (start : ℕ) (marked : List Bool) → ((number : ℕ) → (number ≡ start) ⊎ (is_marked marked number ≡ true) → All (λ base. is_marked marked base ≡ true) (bases_at graph number))
     → {from to : ℕ} → (from ≡ start) ⊎ (is_marked marked from ≡ true) → Reaches graph from to → is_marked marked to ≡ true
 marked_on graph start marked closed {from} {to} which (direct refers) = All-contains (λ base. is_marked marked base ≡ true) (bases_at graph from) to (closed from which) refers
 marked_on graph start marked closed {from} {to} which (onward {next} refers more) =

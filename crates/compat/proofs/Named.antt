@@ -3,12 +3,14 @@ use Rattle.std.proofs.Common.{◌≡◌, ◌<◌, ℕ, ◌+◌, Bool, true, fals
 use Rattle.std.specs.Prelude.{is_none}
 use Rattle.std.specs.List.{position_from, filter_map}
 use Rattle.std.specs.Map.{update}
+use Rattle.std.specs.Option.{option_map}
 use Rattle.std.specs.Str.{bytes_eq}
 use Rattle.std.proofs.lemmas.List.{at_drop_more, map_more}
 use Rattle.std.proofs.lemmas.List.Elements.{filter_map-append}
 use Rattle.std.proofs.lemmas.Grind.{common_steps}
 use Rattle.glif.specs.declared.shape.Component.{Component}
 use Rattle.glif.specs.declared.shape.Drawing.{Drawing}
+use Rattle.compat.specs.declared.refusal.Refusal.{Refusal}
 use Rattle.compat.specs.Names.{base_numbers, dangling_in, dangling_refusal, dangling_from}
 
 take_more : {X : Type 0} (xs : List X) (i : ℕ) (d : X) → i < length xs → take (i + 1) xs ≡ take i xs ++ get_or xs i d ∷ []
@@ -43,8 +45,8 @@ pub base_found : (number : List ℕ → Option ℕ) (drawing : Drawing) (items :
     → (bases new_bases : List ℕ) → bases ≡ filter_map (λ (component : Component). number component.base) (take i drawing.components) → new_bases ≡ bases ++ n ∷ []
     → (new_bases ≡ filter_map (λ (component : Component). number component.base) (take (i + 1) drawing.components))
     × (position_from (λ (component : Component). is_none (number component.base)) (i + 1) (drop (i + 1) drawing.components) ≡ dangling_in number drawing)
-base_found number drawing items i component n same less is some before bases new_bases front longer = (
-  longer ∙ ap (λ b. b ++ n ∷ []) (front ∙ ap (λ items. filter_map (λ (component : Component). number component.base) (take i items)) (sym same))
+base_found number drawing items i component n same less is some before bases new_bases prefix longer = (
+  longer ∙ ap (λ b. b ++ n ∷ []) (prefix ∙ ap (λ items. filter_map (λ (component : Component). number component.base) (take i items)) (sym same))
       ∙ sym (filter_map_more (λ (component : Component). number component.base) items i component n less is (sym some))
       ∙ ap (λ items. filter_map (λ (component : Component). number component.base) (take (i + 1) items)) same,
   ap (λ items. position_from (λ (component : Component). is_none (number component.base)) (i + 1) (drop (i + 1) items)) (sym same)
@@ -63,10 +65,15 @@ named_more drawings i next drawing bytes follows less named old new name updated
     ∙ ap (λ b. cond (bytes_eq b name) (Some i) (position_from (λ (drawing : Drawing). bytes_eq drawing.name name) (i + 1) (drop (i + 1) drawings))) named
     ∙ sym (at_drop_more (position_from (λ (drawing : Drawing). bytes_eq drawing.name name) i) drawings i drawing less)
 
-pub dangling_here : (number : List ℕ → Option ℕ) (drawings : List Drawing) (i place : ℕ) (drawing : Drawing) → i < length drawings → drawing ≡ get_or drawings i drawing → dangling_in number drawing ≡ Some place
-    → dangling_from number i (drop i drawings) ≡ Some (dangling_refusal i place)
-dangling_here number drawings i place drawing less is found =
+pub dangling_here : (number : List ℕ → Option ℕ) (drawings : List Drawing) (i index : ℕ) (drawing : Drawing) → i < length drawings → drawing ≡ get_or drawings i drawing → dangling_in number drawing ≡ Some index
+    → dangling_from number i (drop i drawings) ≡ Some (dangling_refusal i index)
+dangling_here number drawings i index drawing less is found =
     at_drop_more (dangling_from number i) drawings i drawing less ∙ rw (← is, found) refl
+
+pub refused_here : (number : List ℕ → Option ℕ) (drawings : List Drawing) (i : ℕ) (drawing : Drawing) (refusal : Refusal) (found : Option ℕ) → i < length drawings → drawing ≡ get_or drawings i drawing → dangling_in number drawing ≡ found
+    → option_map (dangling_refusal i) found ≡ Some refusal → dangling_from number i (drop i drawings) ≡ Some refusal
+refused_here number drawings i drawing refusal None less is found none = cc
+refused_here number drawings i drawing refusal (Some index) less is found some = dangling_here number drawings i index drawing less is found ∙ some
 
 pub dangling_later : (number : List ℕ → Option ℕ) (drawings : List Drawing) (i : ℕ) (drawing : Drawing) → i < length drawings → drawing ≡ get_or drawings i drawing → dangling_in number drawing ≡ None
     → dangling_from number i (drop i drawings) ≡ dangling_from number (i + 1) (drop (i + 1) drawings)

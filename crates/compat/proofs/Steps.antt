@@ -30,13 +30,13 @@ begins graph = record {
   sizes = simp length-map;
   within = All-nil (λ number. number < length graph);
   reached = All-nil (λ number. newness (mark_at (map fresh graph) number) ≡ 0);
-  chain = λ place less. absurd (omega (arith, less));
+  chain = λ index less. absurd (omega (arith, less));
   opened = λ number known was. let e = ap (λ (node : Node). node.mark) (fresh_at graph number known) in cc;
   left = λ number known. let e = ap (λ (node : Node). node.left) (fresh_at graph number known) in omega (arith, e);
-  looked = λ number place known least less. let e = ap (λ (node : Node). node.left) (fresh_at graph number known) in absurd (omega (arith, e, least, less));
+  looked = λ number index known least less. let e = ap (λ (node : Node). node.left) (fresh_at graph number known) in absurd (omega (arith, e, least, less));
   done = λ number known done. let e = ap (λ (node : Node). node.mark) (fresh_at graph number known) in cc;
   known = All-nil (λ number. number < length graph);
-  before = λ place less. absurd (omega (arith, less));
+  before = λ index less. absurd (omega (arith, less));
   count = omega (arith, all_new graph);
 }
 
@@ -72,12 +72,12 @@ module _ (graph : List (List ℕ)) (nodes : List Node) (path order : List ℕ) (
           (let l = ap (λ (node : Node). node.left) (here node) in omega (arith, l, less, walk.left top known))
       | inr apart ↦ let l = ap (λ (node : Node). node.left) (there node number apart) in omega (arith, l, walk.left number is)
     ];
-    looked = λ number place is least within. same_mark node same _ ∙ elim (cases_eq number top) [
-      | inl e ↦ elim (cases_eq place node.left) [
-        | inl p ↦ subst (λ n. mark_at nodes (slice_index (bases_at graph n) place) ≡ Done) (sym e) (subst (λ p. mark_at nodes (slice_index (bases_at graph top) p) ≡ Done) (sym p) done)
-        | inr q ↦ walk.looked number place is (let l = ap (left_at (set nodes top node)) e ∙ ap (λ (node : Node). node.left) (here node) in let m = ap (left_at nodes) e in omega (arith, l, m, less, least, q)) within
+    looked = λ number index is least within. same_mark node same _ ∙ elim (cases_eq number top) [
+      | inl e ↦ elim (cases_eq index node.left) [
+        | inl p ↦ subst (λ n. mark_at nodes (slice_index (bases_at graph n) index) ≡ Done) (sym e) (subst (λ p. mark_at nodes (slice_index (bases_at graph top) p) ≡ Done) (sym p) done)
+        | inr q ↦ walk.looked number index is (let l = ap (left_at (set nodes top node)) e ∙ ap (λ (node : Node). node.left) (here node) in let m = ap (left_at nodes) e in omega (arith, l, m, less, least, q)) within
       ]
-      | inr apart ↦ walk.looked number place is (let l = ap (λ (node : Node). node.left) (there node number apart) in omega (arith, l, least)) within
+      | inr apart ↦ walk.looked number index is (let l = ap (λ (node : Node). node.left) (there node number apart) in omega (arith, l, least)) within
     ];
     done = λ number is done. walk.done number is (sym (same_mark node same number) ∙ done);
     known = walk.known;
@@ -125,7 +125,7 @@ module _ (graph : List (List ℕ)) (nodes : List Node) (path order : List ℕ) (
   -- ---- opening a base that is new
 
   pub opens : (node : Node) → node.mark ≡ Open → node.left ≡ left_at nodes top → mark_at nodes top ≡ New
-      → ((place : ℕ) → place + 1 ≡ length path → Contains (bases_at graph (slice_index path place)) top)
+      → ((index : ℕ) → index + 1 ≡ length path → Contains (bases_at graph (slice_index path index)) top)
       → IsWalk graph (set nodes top node) (path ++ top ∷ []) order
   opens node becomes same new next = record {
     sizes = length-set nodes top node ∙ walk.sizes;
@@ -133,21 +133,21 @@ module _ (graph : List (List ℕ)) (nodes : List Node) (path order : List ℕ) (
     reached = All-push (λ number. newness (mark_at (set nodes top node) number) ≡ 0) path top
         (All-weaker _ (λ number. newness (mark_at (set nodes top node) number) ≡ 0) (stays_seen node (ap newness becomes)) path walk.reached)
         (ap newness (mark_here node top refl ∙ becomes));
-    chain = λ place less.
+    chain = λ index less.
         let lengths = length-append path (top ∷ []) in
-        elim (cases_eq (place + 1) (length path)) [
-          | inl e ↦ let short : place < length path = omega (arith, e) in
-              rw (get_or_append_left path (top ∷ []) 0 place short, e, get_or-append_seam path top [] 0) (next place e)
-          | inr apart ↦ let short : place < length path = omega (arith, lengths, less, apart) in
-              let next_short : place + 1 < length path = omega (arith, lengths, less, apart) in
-              rw (get_or_append_left path (top ∷ []) 0 place short, get_or_append_left path (top ∷ []) 0 (place + 1) next_short) (walk.chain place next_short)
+        elim (cases_eq (index + 1) (length path)) [
+          | inl e ↦ let short : index < length path = omega (arith, e) in
+              rw (get_or_append_left path (top ∷ []) 0 index short, e, get_or-append_seam path top [] 0) (next index e)
+          | inr apart ↦ let short : index < length path = omega (arith, lengths, less, apart) in
+              let next_short : index + 1 < length path = omega (arith, lengths, less, apart) in
+              rw (get_or_append_left path (top ∷ []) 0 index short, get_or_append_left path (top ∷ []) 0 (index + 1) next_short) (walk.chain index next_short)
         ];
     opened = λ number is was. elim (cases_eq number top) [
       | inl e ↦ subst (Contains (path ++ top ∷ [])) (sym e) (Contains-push path top)
       | inr apart ↦ Contains-append_left path (top ∷ []) number (walk.opened number is (sym (mark_there node number apart) ∙ was))
     ];
     left = λ number is. let l = same_left node same number in omega (arith, l, walk.left number is);
-    looked = λ number place is least within. stays_done node (inr new) _ (walk.looked number place is (let l = same_left node same number in omega (arith, l, least)) within);
+    looked = λ number index is least within. stays_done node (inr new) _ (walk.looked number index is (let l = same_left node same number in omega (arith, l, least)) within);
     done = λ number is done. elim (cases_eq number top) [
       | inl e ↦ let m = mark_here node number e in cc
       | inr apart ↦ walk.done number is (sym (mark_there node number apart) ∙ done)
@@ -160,45 +160,45 @@ module _ (graph : List (List ℕ)) (nodes : List Node) (path order : List ℕ) (
 
 -- ---- closing the last of the path
 
-pub closes : (graph : List (List ℕ)) (nodes : List Node) (front order : List ℕ) (top : ℕ) (node : Node) → IsWalk graph nodes (front ++ top ∷ []) order → IsClosed graph
+pub closes : (graph : List (List ℕ)) (nodes : List Node) (prefix order : List ℕ) (top : ℕ) (node : Node) → IsWalk graph nodes (prefix ++ top ∷ []) order → IsClosed graph
     → top < length graph → node.mark ≡ Done → node.left ≡ left_at nodes top → node.left ≡ 0
-    → IsWalk graph (set nodes top node) front (order ++ top ∷ [])
-closes graph nodes front order top node walk closed known becomes same none =
-    let seen : newness (mark_at nodes top) ≡ 0 = All-contains (λ number. newness (mark_at nodes number) ≡ 0) (front ++ top ∷ []) top walk.reached (Contains-push front top) in
-    let there = mark_there graph nodes (front ++ top ∷ []) order walk top known node in
-    let here = mark_here graph nodes (front ++ top ∷ []) order walk top known node in
-    let left = same_left graph nodes (front ++ top ∷ []) order walk top known node same in
-    let lengths = length-append front (top ∷ []) in
+    → IsWalk graph (set nodes top node) prefix (order ++ top ∷ [])
+closes graph nodes prefix order top node walk closed known becomes same none =
+    let seen : newness (mark_at nodes top) ≡ 0 = All-contains (λ number. newness (mark_at nodes number) ≡ 0) (prefix ++ top ∷ []) top walk.reached (Contains-push prefix top) in
+    let there = mark_there graph nodes (prefix ++ top ∷ []) order walk top known node in
+    let here = mark_here graph nodes (prefix ++ top ∷ []) order walk top known node in
+    let left = same_left graph nodes (prefix ++ top ∷ []) order walk top known node same in
+    let lengths = length-append prefix (top ∷ []) in
     let orders = length-append order (top ∷ []) in
     record {
       sizes = length-set nodes top node ∙ walk.sizes;
-      within = (All-pop (λ number. number < length graph) (front ++ top ∷ []) front (Some top) refl walk.within).0;
+      within = (All-pop (λ number. number < length graph) (prefix ++ top ∷ []) prefix (Some top) refl walk.within).0;
       reached = All-weaker _ (λ number. newness (mark_at (set nodes top node) number) ≡ 0)
-          (stays_seen graph nodes (front ++ top ∷ []) order walk top known node (ap newness becomes)) front
-          (All-pop (λ number. newness (mark_at nodes number) ≡ 0) (front ++ top ∷ []) front (Some top) refl walk.reached).0;
-      chain = λ place less. let short : place < length front = omega arith in
-          rw (get_or_append_left front (top ∷ []) 0 place short, get_or_append_left front (top ∷ []) 0 (place + 1) less) at (walk.chain place (omega (arith, lengths, less)));
+          (stays_seen graph nodes (prefix ++ top ∷ []) order walk top known node (ap newness becomes)) prefix
+          (All-pop (λ number. newness (mark_at nodes number) ≡ 0) (prefix ++ top ∷ []) prefix (Some top) refl walk.reached).0;
+      chain = λ index less. let short : index < length prefix = omega arith in
+          rw (get_or_append_left prefix (top ∷ []) 0 index short, get_or_append_left prefix (top ∷ []) 0 (index + 1) less) at (walk.chain index (omega (arith, lengths, less)));
       opened = λ number is was. elim (cases_eq number top) [
         | inl e ↦ let m = here number e in cc
-        | inr apart ↦ elim (Contains-push_cases front top number (walk.opened number is (sym (there number apart) ∙ was))) [
+        | inr apart ↦ elim (Contains-push_cases prefix top number (walk.opened number is (sym (there number apart) ∙ was))) [
           | inl stands ↦ stands
           | inr e ↦ absurd (apart (sym e))
         ]
       ];
       left = λ number is. let l = left number in omega (arith, l, walk.left number is);
-      looked = λ number place is least within. stays_done graph nodes (front ++ top ∷ []) order walk top known node (inl becomes) _
-          (walk.looked number place is (let l = left number in omega (arith, l, least)) within);
+      looked = λ number index is least within. stays_done graph nodes (prefix ++ top ∷ []) order walk top known node (inl becomes) _
+          (walk.looked number index is (let l = left number in omega (arith, l, least)) within);
       done = λ number is done. elim (cases_eq number top) [
         | inl e ↦ subst (Contains (order ++ top ∷ [])) (sym e) (Contains-push order top)
         | inr apart ↦ Contains-append_left order (top ∷ []) number (walk.done number is (sym (there number apart) ∙ done))
       ];
       known = All-push (λ number. number < length graph) order top walk.known known;
-      before = λ place less. elim (cases_eq place (length order)) [
+      before = λ index less. elim (cases_eq index (length order)) [
         | inl e ↦ rw (e, get_or-append_seam order top [] 0, take-append_seam order (top ∷ []))
             (All-from_get_or (Contains order) (bases_at graph top) 0
             (λ k short. walk.done _ (closed top k 0 short) (walk.looked top k known (omega (arith, same, none)) short)))
-        | inr apart ↦ let short : place < length order = omega (arith, orders, less, apart) in
-            rw (get_or_append_left order (top ∷ []) 0 place short, take-append-le place order (top ∷ []) (omega (arith, short))) (walk.before place short)
+        | inr apart ↦ let short : index < length order = omega (arith, orders, less, apart) in
+            rw (get_or_append_left order (top ∷ []) 0 index short, take-append-le index order (top ∷ []) (omega (arith, short))) (walk.before index short)
       ];
       count = let c = sum_by-set (λ (node : Node). newness node.mark) nodes top node blank (omega (arith, walk.sizes)) in
           let n = ap newness becomes in omega (arith, c, n, seen, lengths, orders, walk.count);
@@ -210,25 +210,25 @@ pub then_direct : (graph : List (List ℕ)) {from next : ℕ} (to : ℕ) → Rea
 then_direct graph to (direct first) last = onward first (direct last)
 then_direct graph to (onward first more) last = onward first (then_direct graph to more last)
 
-pub chain_reaches : (graph : List (List ℕ)) (path : List ℕ) → ((place : ℕ) → place + 1 < length path → Contains (bases_at graph (slice_index path place)) (slice_index path (place + 1)))
-    → (steps place : ℕ) → place + steps + 1 < length path → Reaches graph (slice_index path place) (slice_index path (place + steps + 1))
-chain_reaches graph path chain zero place less = rw add-zero (direct (chain place (omega (arith, less))))
-chain_reaches graph path chain (suc steps) place less =
-    onward (chain place (omega (arith, less))) (subst (λ n. Reaches graph (slice_index path (place + 1)) (slice_index path n)) (omega arith) (chain_reaches graph path chain steps (place + 1) (omega (arith, less))))
+pub chain_reaches : (graph : List (List ℕ)) (path : List ℕ) → ((index : ℕ) → index + 1 < length path → Contains (bases_at graph (slice_index path index)) (slice_index path (index + 1)))
+    → (steps index : ℕ) → index + steps + 1 < length path → Reaches graph (slice_index path index) (slice_index path (index + steps + 1))
+chain_reaches graph path chain zero index less = rw add-zero (direct (chain index (omega (arith, less))))
+chain_reaches graph path chain (suc steps) index less =
+    onward (chain index (omega (arith, less))) (subst (λ n. Reaches graph (slice_index path (index + 1)) (slice_index path n)) (omega arith) (chain_reaches graph path chain steps (index + 1) (omega (arith, less))))
 
-pub closes_cycle : (graph : List (List ℕ)) (nodes : List Node) (path order : List ℕ) → IsWalk graph nodes path order → (place base : ℕ) → place + 1 ≡ length path → base < length graph
-    → Contains (bases_at graph (slice_index path place)) base → mark_at nodes base ≡ Open → HasCycle graph
-closes_cycle graph nodes path order walk place base last known refers was =
+pub closes_cycle : (graph : List (List ℕ)) (nodes : List Node) (path order : List ℕ) → IsWalk graph nodes path order → (index base : ℕ) → index + 1 ≡ length path → base < length graph
+    → Contains (bases_at graph (slice_index path index)) base → mark_at nodes base ≡ Open → HasCycle graph
+closes_cycle graph nodes path order walk index base last known refers was =
     let stands = walk.opened base known was in
     let same = get_or_default path stands.0 base 0 stands.1 in
     let is : slice_index path stands.0 ≡ base = sym same ∙ stands.2 in (
       base,
-      elim (cases_eq stands.0 place) [
+      elim (cases_eq stands.0 index) [
         | inl e ↦ direct (subst (λ n. Contains (bases_at graph n) base) (sym (ap (slice_index path) e) ∙ is) refers)
         | inr apart ↦ then_direct graph base
-            (subst (λ n. Reaches graph n (slice_index path place)) is
+            (subst (λ n. Reaches graph n (slice_index path index)) is
             (subst (λ n. Reaches graph (slice_index path stands.0) (slice_index path n)) (omega (arith, last, apart, stands.1))
-            (chain_reaches graph path walk.chain (place - (stands.0 + 1)) stands.0 (omega (arith, last, apart, stands.1))))) refers
+            (chain_reaches graph path walk.chain (index - (stands.0 + 1)) stands.0 (omega (arith, last, apart, stands.1))))) refers
       ],
     )
 
@@ -280,8 +280,8 @@ step_opens graph nodes path order top base walk closed last known next new new_n
     let is = last_is path top last in
     rw (changed, longer, same_order) (record {
       walk = opens graph nodes path order walk base base_is node refl refl new
-          (λ place e. let p : length path - 1 ≡ place = omega (arith, e) in
-          let t : slice_index path place ≡ top = ap (slice_index path) (sym p) ∙ is.1 in
+          (λ index e. let p : length path - 1 ≡ index = omega (arith, e) in
+          let t : slice_index path index ≡ top = ap (slice_index path) (sym p) ∙ is.1 in
           subst (λ n. Contains (bases_at graph n) base) (sym t) (base_stands graph nodes path order top base walk known next));
       seen = λ number is_new. opened_seen graph nodes path order walk base base_is node refl number is_new;
       fewer = omega (arith, sum, was, lengths);
@@ -293,11 +293,11 @@ pub step_closes : (graph : List (List ℕ)) (nodes : List Node) (path order : Li
 step_closes graph nodes path order top walk closed known none new_nodes new_path new_order changed shorter longer =
     let node : Node = record { mark = Done; left = left_at nodes top } in
     let sum = sum_by-set weight nodes top node blank (omega (arith, walk.sizes)) in
-    let front_walk = subst (λ p. IsWalk graph nodes p order) shorter walk in
-    let reached : newness (mark_at nodes top) ≡ 0 = All-contains (λ number. newness (mark_at nodes number) ≡ 0) (new_path ++ top ∷ []) top front_walk.reached (Contains-push new_path top) in
+    let prefix_walk = subst (λ p. IsWalk graph nodes p order) shorter walk in
+    let reached : newness (mark_at nodes top) ≡ 0 = All-contains (λ number. newness (mark_at nodes number) ≡ 0) (new_path ++ top ∷ []) top prefix_walk.reached (Contains-push new_path top) in
     let lengths = ap length shorter ∙ length-append new_path (top ∷ []) in
     rw (changed, longer) (record {
-      walk = closes graph nodes new_path order top node front_walk closed known refl refl none;
+      walk = closes graph nodes new_path order top node prefix_walk closed known refl refl none;
       seen = λ number is_new. opened_seen graph nodes path order walk top known node refl number is_new;
       fewer = omega (arith, sum, reached, lengths);
     })
@@ -322,7 +322,7 @@ visit_begins graph nodes path order root walk empty known new new_nodes new_path
     let none = ap length empty in
     let is_open = mark_here graph nodes path order walk root known node root refl in
     rw (changed, longer, same_order) (
-      opens graph nodes path order walk root known node refl refl new (λ place e. absurd (omega (arith, e, none))),
+      opens graph nodes path order walk root known node refl refl new (λ index e. absurd (omega (arith, e, none))),
       opened_seen graph nodes path order walk root known node refl,
       λ is_new. cc (is_open, is_new),
     )

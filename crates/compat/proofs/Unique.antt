@@ -12,7 +12,7 @@ use Rattle.glif.specs.declared.shape.Component.{Component}
 use Rattle.glif.specs.declared.shape.Drawing.{Drawing}
 use Rattle.compat.specs.References.{IsFirstOnCycle}
 use Rattle.compat.specs.Names.{references}
-use Rattle.compat.specs.Flattened.{moved_contours, IsNamed, ArePlaced, nothing, placed, IsFlattened, flat_fault, HasFlatFault, refusal_of, IsFirstRefusal, dangling, cycle, flat, IsFlatOutline, AreFlattened}
+use Rattle.compat.specs.Flattened.{moved_contours, IsNamed, AreDrawn, nothing, drawn, IsFlattened, flat_fault, HasFlatFault, refusal_of, IsFirstRefusal, dangling, cycle, flat, IsFlatOutline, AreFlattened}
 use Rattle.compat.specs.declared.refusal.Refusal.{Refusal}
 
 one_named : (drawings : List Drawing) (name : List ℕ) (a b : Drawing) → IsNamed drawings name a → IsNamed drawings name b → b ≡ a
@@ -20,19 +20,19 @@ one_named drawings name a b first second =
     let number = same_Some _ _ (sym first.named ∙ second.named) in
     same_Some _ _ (sym second.stands ∙ ap (slice_get drawings) (sym number) ∙ first.stands)
 
-placed_once : (drawings : List Drawing) {components : List Component} {a b : List (List Point)} → ArePlaced drawings components a → ArePlaced drawings components b → a ≡ b
-placed_once drawings nothing nothing = refl
-placed_once drawings (placed {component} {more} {base} {below} {beside} named under next) (placed {base = base'} {below = below'} {beside = beside'} named' under' next') =
+drawn_once : (drawings : List Drawing) {components : List Component} {a b : List (List Point)} → AreDrawn drawings components a → AreDrawn drawings components b → a ≡ b
+drawn_once drawings nothing nothing = refl
+drawn_once drawings (drawn {component} {more} {base} {below} {beside} named under next) (drawn {base = base'} {below = below'} {beside = beside'} named' under' next') =
     let same = one_named drawings component.base base base' named named' in
-    let first = placed_once drawings under (subst (λ (d : Drawing). ArePlaced drawings d.components below') same under') in
-    let rest = placed_once drawings next next' in
+    let first = drawn_once drawings under (subst (λ (d : Drawing). AreDrawn drawings d.components below') same under') in
+    let rest = drawn_once drawings next next' in
     ap (λ c. moved_contours component (base.outline.contours ++ c) ++ beside) first
     ∙ ap (λ (d : Drawing). moved_contours component (d.outline.contours ++ below') ++ beside) (sym same)
     ∙ ap (λ c. moved_contours component (base'.outline.contours ++ below') ++ c) rest
 
 pub flattened_once : (drawings : List Drawing) (drawing : Drawing) (a b : List (List Point)) → IsFlattened drawings drawing a → IsFlattened drawings drawing b → a ≡ b
 flattened_once drawings drawing a b first second =
-    first.whole ∙ (ap (λ c. drawing.outline.contours ++ c) (placed_once drawings first.placed_below second.placed_below) ∙ sym second.whole)
+    first.whole ∙ (ap (λ c. drawing.outline.contours ++ c) (drawn_once drawings first.drawn_below second.drawn_below) ∙ sym second.whole)
 
 one_fault : (drawings : List Drawing) (drawing : Drawing) (a b : Option (Kind × ℤ)) → HasFlatFault drawings drawing a → HasFlatFault drawings drawing b → a ≡ b
 one_fault drawings drawing a b first second =

@@ -24,11 +24,11 @@ pub record IsPointNear (bound : ℕ) (point : Point) : Type 0 where
 abbrev pub AreNear : ℕ → List (List Point) → Type 0
 AreNear bound contours = All (All (IsPointNear bound)) contours
 
--- the flattened contours where they are few, else their count, at most 1,000,000,000
+-- the flattened contours with their count where they are few, else the count alone, at most 1,000,000,000
 abbrev pub IsFlatOf : List Drawing → ℕ → Drawing → Flat → Type 0
 IsFlatOf drawings bound drawing Unknown = ⊥
-IsFlatOf drawings bound drawing (Few contours) =
-    IsFlattened drawings drawing contours × (sum_by length contours ≤ 4000) × AreNear bound contours
+IsFlatOf drawings bound drawing (Few contours count) =
+    IsFlattened drawings drawing contours × (sum_by length contours ≤ 4000) × AreNear bound contours × (count ≡ sum_by length contours)
 IsFlatOf drawings bound drawing (Many count) =
     (contours : List (List Point)) × IsFlattened drawings drawing contours × (4000 < sum_by length contours) × (count ≡ shown_count contours)
 
@@ -50,13 +50,13 @@ flat_at flats number = slice_index_or flats number Unknown
 -- the contours that are kept
 abbrev pub flat_contours : Flat → List (List Point)
 flat_contours Unknown = []
-flat_contours (Few contours) = contours
+flat_contours (Few contours count) = contours
 flat_contours (Many count) = []
 
 -- the count of points that is kept
 abbrev pub flat_count : Flat → ℕ
 flat_count Unknown = 0
-flat_count (Few contours) = shown_count contours
+flat_count (Few contours count) = count
 flat_count (Many count) = count
 
 -- how many points a drawing has with those to which it refers
@@ -64,9 +64,9 @@ abbrev pub joint_count : List Flat → List (List Point) → List ℕ → ℕ
 joint_count flats own bases = min (shown_count own + sum_by (λ base. flat_count (flat_at flats base)) bases) 1000000000
 
 -- the kept contours of the bases, moved, component by component
-abbrev pub placed_contours : List Flat → List Component → List ℕ → List (List Point)
-placed_contours flats (component ∷ components) (base ∷ bases) = moved_contours component (flat_contours (flat_at flats base)) ++ placed_contours flats components bases
-placed_contours flats _ _ = []
+abbrev pub drawn_contours : List Flat → List Component → List ℕ → List (List Point)
+drawn_contours flats (component ∷ components) (base ∷ bases) = moved_contours component (flat_contours (flat_at flats base)) ++ drawn_contours flats components bases
+drawn_contours flats _ _ = []
 
 abbrev pub AreMovable : List Flat → List Component → List ℕ → Type 0
 AreMovable flats (component ∷ components) (base ∷ bases) = All (All (CanMove component)) (flat_contours (flat_at flats base)) × AreMovable flats components bases
@@ -75,7 +75,7 @@ AreMovable flats _ _ = Unit {0}
 abbrev pub joined_flat : List Flat → Drawing → List ℕ → Flat
 joined_flat flats drawing bases =
     if nat_le (joint_count flats drawing.outline.contours bases) 4000
-    then Few (drawing.outline.contours ++ placed_contours flats drawing.components bases)
+    then Few (drawing.outline.contours ++ drawn_contours flats drawing.components bases) (joint_count flats drawing.outline.contours bases)
     else Many (joint_count flats drawing.outline.contours bases)
 
 -- something is kept of every drawing
@@ -97,13 +97,13 @@ IsJoined drawings graph flats number flat = (drawing : Drawing) → slice_get dr
 -- a count that is kept is at most 1,000,000,000
 abbrev pub IsCounted : Flat → Type 0
 IsCounted Unknown = Unit {0}
-IsCounted (Few contours) = Unit {0}
+IsCounted (Few contours count) = Unit {0}
 IsCounted (Many count) = count ≤ 1000000000
 
 -- the fault of what is kept
 abbrev pub kept_fault : Flat → Option (Kind × ℤ)
 kept_fault Unknown = None
-kept_fault (Few contours) = option_map (λ value. (CoordinateRange, value)) (coordinate_outside contours)
+kept_fault (Few contours count) = option_map (λ value. (CoordinateRange, value)) (coordinate_outside contours)
 kept_fault (Many count) = Some (TooManyPoints, pos count)
 
 -- the first fault of what is kept of drawings of which the first has this number
@@ -114,7 +114,7 @@ fault_from number (flat ∷ flats) = option_or (option_map (refusal_of number) (
 -- contours are kept
 abbrev pub IsFew : Flat → Type 0
 IsFew Unknown = ⊥
-IsFew (Few contours) = Unit {0}
+IsFew (Few contours count) = Unit {0}
 IsFew (Many count) = ⊥
 
 -- the outlines of drawings with the contours that are kept of them

@@ -1,4 +1,4 @@
--- What a glyph draws through its components: its own contours, and behind them, component by component, what the base
+-- What a glyph draws through its components: its own contours, and after them, component by component, what the base
 -- draws, moved by the component's offset.
 use Rattle.std.specs.Prelude.{◌≡◌, ℕ, ◌<◌, ◌≤◌, ℤ, pos, All, ◌+ℤ◌, List, [], ◌∷◌, ◌++◌, length, map, min, sum_by, Option, Some, None, if◌then◌else◌, nat_le, slice_get}
 use Rattle.std.specs.Option.{option_map}
@@ -32,17 +32,17 @@ pub record IsNamed (drawings : List Drawing) (name : List ℕ) (drawing : Drawin
   pub stands : slice_get drawings number ≡ Some drawing
 
 -- The contours that components draw. A list without components draws none; the first component draws its base's own
--- contours and those of the base's components, moved, and behind them stand those of the others.
-pub data ArePlaced (drawings : List Drawing) : List Component → List (List Point) → Type 0 where
-  nothing : ArePlaced drawings [] []
-  placed : {component : Component} {more : List Component} {base : Drawing} {below beside : List (List Point)}
-      → IsNamed drawings component.base base → ArePlaced drawings base.components below → ArePlaced drawings more beside
-      → ArePlaced drawings (component ∷ more) (moved_contours component (base.outline.contours ++ below) ++ beside)
+-- contours and those of the base's components, moved, and after them stand those of the others.
+pub data AreDrawn (drawings : List Drawing) : List Component → List (List Point) → Type 0 where
+  nothing : AreDrawn drawings [] []
+  drawn : {component : Component} {more : List Component} {base : Drawing} {below beside : List (List Point)}
+      → IsNamed drawings component.base base → AreDrawn drawings base.components below → AreDrawn drawings more beside
+      → AreDrawn drawings (component ∷ more) (moved_contours component (base.outline.contours ++ below) ++ beside)
 
 -- the contours that a drawing draws, with those of its components
 pub record IsFlattened (drawings : List Drawing) (drawing : Drawing) (contours : List (List Point)) : Type 0 where
   pub below : List (List Point)
-  pub placed_below : ArePlaced drawings drawing.components below
+  pub drawn_below : AreDrawn drawings drawing.components below
   pub whole : contours ≡ drawing.outline.contours ++ below
 
 -- how many points there are, shown as 1,000,000,000 where there are more
@@ -97,7 +97,7 @@ pub record AreFlattened (drawings : List Drawing) (outlines : List Outline) : Ty
   pub no_cycle : HasNoCycle (references drawings)
   pub each : AllZip (IsFlatOutline drawings) drawings outlines
 
--- the place of a refusal: its item is the name of the drawing
+-- the spot of a refusal: its item is the name of the drawing
 pub record IsSpotOf (drawings : List Drawing) (refusal : Refusal) (spot : Spot) : Type 0 where
   pub kind : spot.kind ≡ refusal.kind
   pub item : option_map (λ (drawing : Drawing). drawing.name) (slice_get drawings refusal.drawing) ≡ Some spot.item

@@ -4,4 +4,5 @@ pub mod Flattened
 pub mod Names
 pub mod References
 pub mod Searches
+pub mod Stops
 pub mod Walks

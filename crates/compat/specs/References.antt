@@ -23,12 +23,12 @@ HasNoCycle graph = (number : ℕ) → ¬ Reaches graph number number
 abbrev pub IsClosed : List (List ℕ) → Type 0
 IsClosed graph = (number : ℕ) → All (λ base. base < length graph) (bases_at graph number)
 
--- An order in which everything stands, behind all to which it refers.
+-- An order in which everything stands, after all to which it refers.
 pub record IsOrder (graph : List (List ℕ)) (order : List ℕ) : Type 0 where
   pub each : (number : ℕ) → number < length graph → Contains order number
   pub known : All (λ number. number < length graph) order
   pub few : length order ≤ length graph
-  pub before : (place : ℕ) → place < length order → All (Contains (take place order)) (bases_at graph (slice_index order place))
+  pub before : (index : ℕ) → index < length order → All (Contains (take index order)) (bases_at graph (slice_index order index))
 
 -- the first of those that reach themselves
 pub record IsFirstOnCycle (graph : List (List ℕ)) (number : ℕ) : Type 0 where

@@ -44,3 +44,23 @@ pub record IsSearch (graph : List (List ℕ)) (start : ℕ) (marked : List Bool)
   pub within : (number : ℕ) → Contains waiting number → number < length graph
   pub closed : (number : ℕ) → (number ≡ start) ⊎ (is_marked marked number ≡ true)
       → Contains waiting number ⊎ All (λ base. is_marked marked base ≡ true) (bases_at graph number)
+
+-- What is marked refers only to what is marked.
+abbrev pub AreSettled : List (List ℕ) → List Bool → Type 0
+AreSettled graph marked = (number : ℕ) → is_marked marked number ≡ true → All (λ base. is_marked marked base ≡ true) (bases_at graph number)
+
+-- What holds at each step of a search that marks what isn't marked yet: of each that is marked all bases are marked,
+-- but of those that wait.
+pub record IsSpreading (graph : List (List ℕ)) (marked : List Bool) (waiting : List ℕ) : Type 0 where
+  pub sizes : length marked ≡ length graph
+  pub within : (number : ℕ) → Contains waiting number → number < length graph
+  pub settled : (number : ℕ) → is_marked marked number ≡ true → Contains waiting number ⊎ All (λ base. is_marked marked base ≡ true) (bases_at graph number)
+
+-- Those that are marked don't reach themselves.
+abbrev pub AreClear : List (List ℕ) → List Bool → Type 0
+AreClear graph clear = (number : ℕ) → is_marked clear number ≡ true → ¬ Reaches graph number number
+
+-- as many lists as a count says, of numbers below it
+pub record AreReferrers (count : ℕ) (referrers : List (List ℕ)) : Type 0 where
+  pub sizes : length referrers ≡ count
+  pub below : (number : ℕ) → All (λ referrer. referrer < count) (bases_at referrers number)

@@ -34,14 +34,14 @@ pub record IsWalk (graph : List (List ℕ)) (nodes : List Node) (path order : Li
   pub sizes : length nodes ≡ length graph
   pub within : All (λ number. number < length graph) path
   pub reached : All (λ number. newness (mark_at nodes number) ≡ 0) path
-  pub chain : (place : ℕ) → place + 1 < length path → Contains (bases_at graph (slice_index path place)) (slice_index path (place + 1))
+  pub chain : (index : ℕ) → index + 1 < length path → Contains (bases_at graph (slice_index path index)) (slice_index path (index + 1))
   pub opened : (number : ℕ) → number < length graph → mark_at nodes number ≡ Open → Contains path number
   pub left : (number : ℕ) → number < length graph → left_at nodes number ≤ length (bases_at graph number)
-  pub looked : (number place : ℕ) → number < length graph → left_at nodes number ≤ place → place < length (bases_at graph number)
-      → mark_at nodes (slice_index (bases_at graph number) place) ≡ Done
+  pub looked : (number index : ℕ) → number < length graph → left_at nodes number ≤ index → index < length (bases_at graph number)
+      → mark_at nodes (slice_index (bases_at graph number) index) ≡ Done
   pub done : (number : ℕ) → number < length graph → mark_at nodes number ≡ Done → Contains order number
   pub known : All (λ number. number < length graph) order
-  pub before : (place : ℕ) → place < length order → All (Contains (take place order)) (bases_at graph (slice_index order place))
+  pub before : (index : ℕ) → index < length order → All (Contains (take index order)) (bases_at graph (slice_index order index))
   pub count : length order + (length path + count_new nodes) ≡ length graph
 
 -- what was reached stays so
@@ -62,6 +62,18 @@ pub record IsStep (graph : List (List ℕ)) (nodes : List Node) (path : List ℕ
   pub walk : IsWalk graph new_nodes new_path new_order
   pub seen : StaySeen nodes new_nodes
   pub fewer : steps_left new_nodes new_path + 1 ≡ steps_left nodes path
+
+-- What holds at each step of a walk that goes on past cycles.
+pub record IsTour (graph : List (List ℕ)) (nodes : List Node) (path order : List ℕ) : Type 0 where
+  pub sizes : length nodes ≡ length graph
+  pub within : All (λ number. number < length graph) path
+  pub left : (number : ℕ) → number < length graph → left_at nodes number ≤ length (bases_at graph number)
+  pub known : All (λ number. number < length graph) order
+
+-- a step of such a walk: it stays one, and has less to do
+pub record IsTourStep (graph : List (List ℕ)) (nodes : List Node) (path : List ℕ) (new_nodes : List Node) (new_path new_order : List ℕ) : Type 0 where
+  pub tour : IsTour graph new_nodes new_path new_order
+  pub fewer : steps_left new_nodes new_path < steps_left nodes path
 
 -- a walk from a root through all that it reaches: it ends at rest, and the root is reached
 pub record IsVisit (graph : List (List ℕ)) (nodes : List Node) (root : ℕ) (new_nodes : List Node) (new_path new_order : List ℕ) : Type 0 where

@@ -3,8 +3,8 @@ ghost use Rattle.std.specs.List.{common_prefix_len};
 ghost use Rattle.glif.specs.Shapes.{contour_kinds};
 ghost use Rattle.compat.specs.Differences.{kind_number, kind_difference, contour_difference, contours_difference, outline_difference, have_one_base, bases, base_difference};
 
-use glif::{Component, Drawing, Outline, Point};
 use basics::{Kind, Seq};
+use glif::{Component, Drawing, Outline, Point};
 
 /// What differs between two drawings of one glyph, the first of which is mostly that of the default source.
 #[derive(Clone, Copy, Debug, PartialEq, Eq)]

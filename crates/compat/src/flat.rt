@@ -2,10 +2,10 @@
 
 ghost use Rattle.std.specs.Prelude.{◌≡◌, ◌++◌, length, map, All, IfOk, OnOk, ◌<◌};
 ghost use Rattle.compat.specs.Flattened.{moved, moved_contours, shown_count};
-ghost use Rattle.compat.specs.Flats.{CanMove, flat_at, flat_contours, flat_count, joint_count, placed_contours, AreMovable, joined_flat, IsFew};
+ghost use Rattle.compat.specs.Flats.{CanMove, flat_at, flat_contours, flat_count, joint_count, drawn_contours, AreMovable, joined_flat, IsFew};
 
-use glif::{Component, Drawing, Point};
 use basics::{NoMemory, Seq};
+use glif::{Component, Drawing, Point};
 use std::alloc::Global;
 
 /// The most points of a glyph.
@@ -19,8 +19,8 @@ const MANY_POINTS: u64 = 1_000_000_000;
 pub(crate) enum Flat {
     /// It isn't made yet.
     Unknown,
-    /// Its contours, with at most 4,000 points in all.
-    Few(Seq<Seq<Point>>),
+    /// Its contours, and how many points they have in all, at most 4,000.
+    Few(Seq<Seq<Point>>, u64),
     /// It has more points: how many, or 1,000,000,000 where there are more.
     Many(u64),
 }
@@ -31,7 +31,7 @@ impl Flat {
         ensures { result.now ≡ flat_contours self.now }
     {
         match self {
-            Flat::Few(contours) => contours.as_slice(),
+            Flat::Few(contours, _) => contours.as_slice(),
             Flat::Unknown | Flat::Many(_) => &[],
         }
     }
@@ -42,7 +42,7 @@ impl Flat {
         ensures { result ≡ flat_contours self }
     {
         match self {
-            Flat::Few(contours) => contours,
+            Flat::Few(contours, _) => contours,
             Flat::Unknown | Flat::Many(_) => unreachable!(),
         }
     }
@@ -53,8 +53,7 @@ impl Flat {
     {
         match self {
             Flat::Unknown => 0,
-            Flat::Few(contours) => point_count(contours.as_slice()),
-            Flat::Many(count) => *count,
+            Flat::Few(_, count) | Flat::Many(count) => *count,
         }
     }
 }
@@ -111,7 +110,7 @@ fn moved_contour(
 }
 
 /// Adds contours moved by a component's offset.
-fn place(
+fn index(
     alloc: Global,
     contours: &mut Vec<Seq<Point>>,
     component: &Component,
@@ -137,7 +136,7 @@ fn copied(alloc: Global, contours: &[Seq<Point>]) -> Result<Vec<Seq<Point>>, NoM
     Ok(copy)
 }
 
-/// A drawing's own contours and behind them those of its bases, moved by the components' offsets, where they have
+/// A drawing's own contours and after them those of its bases, moved by the components' offsets, where they have
 /// at most 4,000 points in all, and else their count. `bases` has the number of each component's base.
 pub(crate) fn joined(
     alloc: Global,
@@ -157,12 +156,12 @@ pub(crate) fn joined(
     }
     let mut contours = copied(alloc, own)?;
     for (number, component) in drawing.components.as_slice().iter().enumerate() {
-        place(
+        index(
             alloc,
             &mut contours,
             component,
             flats[bases[number]].contours(),
         )?;
     }
-    Ok(Flat::Few(Seq::from_vec(contours)))
+    Ok(Flat::Few(Seq::from_vec(contours), count))
 }

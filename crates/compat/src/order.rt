@@ -1,9 +1,9 @@
-//! An order in which everything stands behind all to which it refers.
+//! An order in which everything stands after all to which it refers.
 
-ghost use Rattle.std.specs.Prelude.{◌≡◌, ℕ, ◌+◌, ◌++◌, ◌∷◌, ◌-◌, ◌<◌, ◌≤◌, List, [], length, IfOk, OnOk, MatchOption, slice_index, slice_get, slice_set, Some, Contains};
+ghost use Rattle.std.specs.Prelude.{◌≡◌, ℕ, ◌+◌, ◌++◌, ◌∷◌, ◌-◌, ◌<◌, ◌≤◌, List, [], length, All, IfOk, OnOk, MatchOption, slice_index, slice_get, slice_set, Some, Contains};
 ghost use Rattle.std.specs.Bool.{MatchBool};
 ghost use Rattle.compat.specs.References.{bases_at, HasCycle, IsClosed, IsOrder};
-ghost use Rattle.compat.specs.Walks.{IsWalk, StaySeen, AreSeen, mark_at, left_at, steps_left, IsNextBase, IsStep, IsVisit};
+ghost use Rattle.compat.specs.Walks.{IsWalk, StaySeen, AreSeen, mark_at, left_at, steps_left, IsNextBase, IsStep, IsTour, IsTourStep, IsVisit};
 ghost use Rattle.compat.specs.declared.order.Mark.TheVariants.{New, Open, Done};
 
 use basics::{NoMemory, Seq};
@@ -28,7 +28,7 @@ struct Node {
     left: usize,
 }
 
-/// A walk through all references, depth first, with a path in place of the stack.
+/// A walk through all references, depth first, with a path instead of the stack.
 #[derive(Drop)]
 struct Walk {
     nodes: Vec<Node>,
@@ -123,8 +123,9 @@ impl Walk {
 
     /// The next to which `top` refers, or None where all have been looked at.
     fn next_base(&self, graph: &[Seq<usize>], top: usize) -> Option<usize>
-        requires walk { IsWalk graph.now self.now.nodes.items self.now.path.items self.now.order.items }
+        requires sizes { length self.now.nodes.items ≡ length graph.now }
         requires known { top < length graph.now }
+        requires left { left_at self.now.nodes.items top ≤ length (bases_at graph.now top) }
         ensures { MatchOption result (left_at self.now.nodes.items top ≡ 0) (IsNextBase graph.now self.now.nodes.items top) }
     {
         let left = self.nodes[top].left;
@@ -176,9 +177,43 @@ impl Walk {
         }
         Ok(true)
     }
+
+    /// Does one step with the last of the path, `top`, and goes on past what is open as past what is done.
+    fn step_on(&mut self, graph: &[Seq<usize>], top: usize) -> Result<(), NoMemory>
+        requires tour { IsTour graph.now self.old.nodes.items self.old.path.items self.old.order.items }
+        requires closed { IsClosed graph.now }
+        requires last { slice_get self.old.path.items (length self.old.path.items - 1) ≡ Some top }
+        requires known { top < length graph.now }
+        ensures { OnOk result (IsTourStep graph.now self.old.nodes.items self.old.path.items self.new.nodes.items self.new.path.items self.new.order.items) }
+    {
+        let Some(base) = self.next_base(graph, top) else {
+            return self.close(top);
+        };
+        match self.mark(base) {
+            Mark::New => self.open(base),
+            Mark::Open | Mark::Done => {
+                self.look(top);
+                Ok(())
+            }
+        }
+    }
+
+    /// Walks from `root` through all that it reaches and that is new, past cycles.
+    fn tour(&mut self, graph: &[Seq<usize>], root: usize) -> Result<(), NoMemory>
+        requires tour { IsTour graph.now self.old.nodes.items self.old.path.items self.old.order.items }
+        requires closed { IsClosed graph.now }
+        requires known { root < length graph.now }
+        ensures { OnOk result (IsTour graph.now self.new.nodes.items self.new.path.items self.new.order.items) }
+    {
+        self.open(root)?;
+        while let Some(top) = self.last() {
+            self.step_on(graph, top)?;
+        }
+        Ok(())
+    }
 }
 
-/// An order in which everything stands behind all to which it refers, or None exactly where something reaches
+/// An order in which everything stands after all to which it refers, or None exactly where something reaches
 /// itself. `graph` has for each the numbers of those to which it refers, all of them below its length.
 ///
 /// It takes one step for each reference and two for each number, and uses no stack.
@@ -193,4 +228,19 @@ pub(crate) fn order_of(alloc: Global, graph: &[Seq<usize>]) -> Result<Option<Vec
         }
     }
     Ok(Some(walk.order))
+}
+
+/// The numbers in the order in which a walk through all references, depth first, is done with each. A cycle doesn't
+/// stop it. It takes no more steps than `order_of`.
+pub(crate) fn finishing_order(alloc: Global, graph: &[Seq<usize>]) -> Result<Vec<usize>, NoMemory>
+    requires { IsClosed graph.now }
+    ensures { IfOk result (λ order. All (λ number. number < length graph.now) order.items) }
+{
+    let mut walk = Walk::new(alloc, graph)?;
+    for root in 0..graph.len() {
+        if matches!(walk.nodes[root].mark, Mark::New) {
+            walk.tour(graph, root)?;
+        }
+    }
+    Ok(walk.order)
 }

@@ -5,18 +5,19 @@ ghost use Rattle.glif.specs.FirstOutside.{first_given, point_outside};
 ghost use Rattle.compat.specs.Names.{references, first_dangling};
 ghost use Rattle.compat.specs.References.{IsOrder};
 ghost use Rattle.compat.specs.Flattened.{AreFit, AreFlattened, IsFirstRefusal, IsRefused, IsStopOf, coordinate_outside};
+ghost use Rattle.compat.specs.Stops.{StopsAt};
 ghost use Rattle.compat.specs.Flats.{HasBases, IsJoined, AreKept, kept_fault, fault_from, IsCounted, IsFew, joined_outlines};
 
 use crate::cycle::first_on_cycle;
 use crate::flat::{Flat, joined};
 use crate::names::references;
 use crate::order::order_of;
-use crate::refusal::Refusal;
-use glif::{Drawing, Outline, Point, coordinate_outside};
+use crate::refusal::{FlattenStop, Refusal};
 use basics::{Kind, NoMemory, Seq, Spot, Stop};
+use glif::{Drawing, Outline, Point, coordinate_outside};
 use std::alloc::Global;
 
-/// As many places as there are drawings, with nothing made yet.
+/// What is kept of each drawing before anything is made.
 fn unknown(alloc: Global, drawings: &[Drawing]) -> Result<Vec<Flat>, NoMemory>
     ensures { IfOk result (λ flats. length flats.items ≡ length drawings.now) }
 {
@@ -43,8 +44,7 @@ fn joined_at(
     requires bases { HasBases drawings.now graph.now flats.now number }
     ensures { IfOk result (IsJoined drawings.now graph.now flats.now number) }
 {
-    let flat = joined(alloc, &drawings[number], graph[number].as_slice(), flats)?;
-    Ok(flat)
+    joined(alloc, &drawings[number], graph[number].as_slice(), flats)
 }
 
 /// What is kept of each drawing's flattened outline, made in an order in which bases come first.
@@ -87,7 +87,10 @@ fn fault_of(flat: &Flat) -> Option<(Kind, i64)>
 {
     match flat {
         Flat::Unknown => None,
-        Flat::Few(contours) => Some((Kind::CoordinateRange, coordinate_in(contours.as_slice())?)),
+        Flat::Few(contours, _) => Some((
+            Kind::CoordinateRange,
+            coordinate_in(contours.as_slice())?,
+        )),
         Flat::Many(count) => Some((Kind::TooManyPoints, *count as i64)),
     }
 }
@@ -146,15 +149,15 @@ fn outlines_by(
     alloc: Global,
     drawings: &[Drawing],
     graph: &[Seq<usize>],
-) -> Result<Result<Seq<Outline>, Refusal>, NoMemory>
+) -> Result<Seq<Outline>, FlattenStop>
     requires fit { AreFit drawings.now }
     requires references { graph.now ≡ references drawings.now }
     requires named { first_dangling drawings.now ≡ None }
-    ensures { IfOk result (λ found. MatchResult found (AreFlattened drawings.now) (IsFirstRefusal drawings.now)) }
+    ensures { MatchResult result (AreFlattened drawings.now) (StopsAt (IsFirstRefusal drawings.now)) }
 {
     let Some(order) = order_of(alloc, graph)? else {
         let drawing = first_on_cycle(alloc, graph)?;
-        return Ok(Err(Refusal {
+        return Err(FlattenStop::Refused(Refusal {
             drawing,
             kind: Kind::ComponentCycle,
             at: 0,
@@ -163,27 +166,19 @@ fn outlines_by(
     };
     let flats = flats_in(alloc, drawings, graph, order.as_slice())?;
     if let Some(refusal) = first_fault(flats.as_slice()) {
-        return Ok(Err(refusal));
+        return Err(FlattenStop::Refused(refusal));
     }
     let outlines = outlines_of(alloc, drawings, flats)?;
-    Ok(Ok(outlines))
+    Ok(outlines)
 }
 
 /// The flattened outlines, or the first fault.
-fn outlines_or_refusal(
-    alloc: Global,
-    drawings: &[Drawing],
-) -> Result<Result<Seq<Outline>, Refusal>, NoMemory>
+fn outlines(alloc: Global, drawings: &[Drawing]) -> Result<Seq<Outline>, FlattenStop>
     requires { AreFit drawings.now }
-    ensures { IfOk result (λ found. MatchResult found (AreFlattened drawings.now) (IsFirstRefusal drawings.now)) }
+    ensures { MatchResult result (AreFlattened drawings.now) (StopsAt (IsFirstRefusal drawings.now)) }
 {
-    match references(alloc, drawings)? {
-        Ok(graph) => {
-            let found = outlines_by(alloc, drawings, graph.as_slice())?;
-            Ok(found)
-        }
-        Err(refusal) => Ok(Err(refusal)),
-    }
+    let graph = references(alloc, drawings)?;
+    outlines_by(alloc, drawings, graph.as_slice())
 }
 
 /// A refusal with the glyph's name, or NoMemory.
@@ -204,7 +199,7 @@ fn stop_of(alloc: Global, drawings: &[Drawing], refusal: Refusal) -> Stop
     }
 }
 
-/// The flattened outline of each drawing of one source: its own contours, and behind them, component by component,
+/// The flattened outline of each drawing of one source: its own contours, and after them, component by component,
 /// the flattened outline of the base, moved by the component's offset (UFO 3, "GLIF", "component"). The advance
 /// width is the drawing's own. A base is the drawing of that name, the first where there are more.
 ///
@@ -223,12 +218,12 @@ pub fn flatten(alloc: Global, drawings: &Seq<Drawing>) -> Result<Seq<Outline>, (
     requires { AreFit drawings.now }
     ensures { MatchResult result (AreFlattened drawings.now) (λ fault. IsRefused drawings.now fault.0 fault.1) }
 {
-    match outlines_or_refusal(alloc, drawings.as_slice()) {
-        Ok(Ok(outlines)) => Ok(outlines),
-        Ok(Err(refusal)) => Err((
+    match outlines(alloc, drawings.as_slice()) {
+        Ok(outlines) => Ok(outlines),
+        Err(FlattenStop::Refused(refusal)) => Err((
             refusal.drawing as u64,
             stop_of(alloc, drawings.as_slice(), refusal),
         )),
-        Err(_) => Err((0, Stop::NoMemory)),
+        Err(FlattenStop::NoMemory) => Err((0, Stop::NoMemory)),
     }
 }

@@ -1,4 +1,7 @@
-use basics::Kind;
+ghost use Rattle.std.specs.Prelude.{◌≡◌};
+
+use basics::{Kind, NoMemory};
+use std::alloc::{AllocError, AllocFailed};
 
 /// A fault of a list of drawings.
 #[derive(Clone, Copy)]
@@ -10,4 +13,43 @@ pub(crate) struct Refusal {
     pub(crate) at: usize,
     /// The point count or the coordinate out of limits, else 0.
     pub(crate) first: i64,
+}
+
+/// Why drawings have no flattened outlines.
+#[derive(Clone, Copy)]
+pub(crate) enum FlattenStop {
+    /// They have this fault.
+    Refused(Refusal),
+    /// Memory ran out.
+    NoMemory,
+}
+
+impl From<NoMemory> for FlattenStop {
+    ghost use Rattle.compat.specs.declared.refusal.FlattenStop.TheVariants.{NoMemory};
+
+    ghost from_gives = { λ _ stop. stop ≡ NoMemory };
+
+    fn from(_: NoMemory) -> FlattenStop {
+        FlattenStop::NoMemory
+    }
+}
+
+impl From<AllocError> for FlattenStop {
+    ghost use Rattle.compat.specs.declared.refusal.FlattenStop.TheVariants.{NoMemory};
+
+    ghost from_gives = { λ _ stop. stop ≡ NoMemory };
+
+    fn from(_: AllocError) -> FlattenStop {
+        FlattenStop::NoMemory
+    }
+}
+
+impl<T: Drop> From<AllocFailed<T>> for FlattenStop {
+    ghost use Rattle.compat.specs.declared.refusal.FlattenStop.TheVariants.{NoMemory};
+
+    ghost from_gives = { λ _ stop. stop ≡ NoMemory };
+
+    fn from(_: AllocFailed<T>) -> FlattenStop {
+        FlattenStop::NoMemory
+    }
 }

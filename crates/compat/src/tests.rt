@@ -5,8 +5,8 @@ ghost use Rattle.compat.specs.Flattened.{AreFit};
 ghost use Rattle.glif.specs.Limits.{IsOffsetWithin};
 
 use crate::{Difference, compare, flatten, same_bases};
-use glif::{Component, Drawing, Outline, Point, within};
 use basics::{Kind, Name, NoMemory, Seq, Stop};
+use glif::{Component, Drawing, Outline, Point, within};
 use std::alloc::{AllocError, Global};
 use std::fmt::Write;
 use std::test::Fail;
@@ -218,7 +218,7 @@ const OUTLINES: ([Sketch; 4], &str) = (
 );
 
 /// Drawings, and their first fault.
-const FAULTS: [(&[Sketch], &str); 8] = [
+const FAULTS: [(&[Sketch], &str); 9] = [
     (&[], ""),
     (
         &[
@@ -247,6 +247,19 @@ const FAULTS: [(&[Sketch], &str); 8] = [
             ("c", &[], &[("c", 0, 0)]),
         ],
         "2 ComponentCycle c 0 0 0 0",
+    ),
+    // Between two cycles stand drawings that are on none.
+    (
+        &[
+            ("between", &[], &[("late", 0, 0), ("alone", 0, 0)]),
+            ("alone", &[OWN], &[]),
+            ("next", &[], &[("between", 0, 0), ("alone", 0, 0)]),
+            ("late", &[], &[("alone", 0, 0), ("later", 0, 0)]),
+            ("later", &[], &[("late", 0, 0)]),
+            ("early", &[], &[("earlier", 0, 0), ("next", 0, 0)]),
+            ("earlier", &[], &[("early", 0, 0)]),
+        ],
+        "3 ComponentCycle late 0 0 0 0",
     ),
     (
         &[("a", &[], &[("b", 1, -1)]), ("b", &[FAR], &[])],
@@ -322,7 +335,7 @@ fn counts(rt: HostRuntime) -> Result<(), Fail> {
     Ok(())
 }
 
-/// Drawings of which each has the one behind it as a component, moved to the right by a step; the last has one
+/// Drawings of which each has the one after it as a component, moved to the right by a step; the last has one
 /// point.
 fn chain(alloc: Global, last: u32, step: i32) -> Result<Seq<Drawing>, NoMemory> {
     let mut drawings = Seq::new(alloc);
@@ -344,5 +357,35 @@ fn long_chains(rt: HostRuntime) -> Result<(), Fail> {
     // As many drawings as there may be.
     let text = answer(alloc, &chain(alloc, 32_509, 1)?)?;
     assert_eq!(rt; text.as_str(), "0 CoordinateRange 0 0 0 32509 0");
+    Ok(())
+}
+
+/// Drawings of which each has ten components of the one after it, and the last of the one of the number `back`.
+fn ring(alloc: Global, last: u32, back: u32) -> Result<Seq<Drawing>, NoMemory> {
+    let mut drawings = Seq::new(alloc);
+    for number in 0..=last {
+        let next = if number < last { number + 1 } else { back };
+        let name = format!(in alloc; "{number}")?;
+        let base = format!(in alloc; "{next}")?;
+        let parts = [(base.as_str(), 0, 0); 10];
+        drawings.push(drawing(alloc, &(name.as_str(), &[], &parts))?)?;
+    }
+    Ok(drawings)
+}
+
+#[test]
+fn long_cycles(rt: HostRuntime) -> Result<(), Fail> {
+    let alloc = rt.alloc();
+    for (last, back, wanted) in [
+        (0, 0, "0 ComponentCycle 0 0 0 0 0"),
+        (2, 0, "0 ComponentCycle 0 0 0 0 0"),
+        (2, 1, "1 ComponentCycle 1 0 0 0 0"),
+        (32_509, 0, "0 ComponentCycle 0 0 0 0 0"),
+        (32_509, 16_000, "16000 ComponentCycle 16000 0 0 0 0"),
+        (32_509, 32_509, "32509 ComponentCycle 32509 0 0 0 0"),
+    ] {
+        let text = answer(alloc, &ring(alloc, last, back)?)?;
+        assert_eq!(rt; text.as_str(), wanted);
+    }
     Ok(())
 }

@@ -5,21 +5,21 @@ use Rattle.std.proofs.lemmas.List.Elements.{All-push}
 use Rattle.glif.specs.declared.shape.Outline.{Outline}
 use Rattle.glif.specs.declared.shape.Point.{Point}
 use Rattle.variation_rules.specs.PackedPoints.{count_from}
-use Rattle.delta_solve.specs.Deltas.{next_delta, deltas_behind, deltas_by}
+use Rattle.delta_solve.specs.Deltas.{next_delta, deltas_after, deltas_by}
 use Rattle.delta_solve.specs.GlyphModels.{AreTuplesBy, IsNextTuple, default_of, delta_advance, delta_at, delta_x, delta_y, fault_by, first_some, misfit, misfits_in, misfits_of, next_advance, next_misfits, next_x, next_y, point_misfits}
-use Rattle.delta_solve.specs.Outlines.{advance_of, all_points, place, points_of, x_of, y_of}
+use Rattle.delta_solve.specs.Outlines.{advance_of, all_points, position, points_of, x_of, y_of}
 use Rattle.glif.specs.Shapes.{contour_kinds}
 use Rattle.delta_solve.specs.declared.model.GlyphTuple.{GlyphTuple}
 
 -- the deltas so far and those of the masters from this one on are all
 abbrev pub IsColumn : (GlyphTuple → ℤ) → (Outline → ℤ) → List (List ℤ) → List Outline → ℕ → List GlyphTuple → Type 0
 IsColumn delta value rows outlines master tuples =
-    map delta tuples ++ deltas_behind (map delta tuples) (drop master rows) (map value (drop master outlines)) ≡ deltas_by rows (map value outlines)
+    map delta tuples ++ deltas_after (map delta tuples) (drop master rows) (map value (drop master outlines)) ≡ deltas_by rows (map value outlines)
 
 -- what is left begins with this master's delta
 column_next : (delta : GlyphTuple → ℤ) (value : Outline → ℤ) (rows : List (List ℤ)) (outlines : List Outline) (k : ℕ) (tuples : List GlyphTuple) (row : List ℤ) (outline : Outline) → k < length rows → k < length outlines → row ≡ get_or rows k row → outline ≡ get_or outlines k outline
     → IsColumn delta value rows outlines k tuples
-    → map delta tuples ++ (next_delta row (value outline) (map delta tuples) ∷ deltas_behind (map delta tuples ++ (next_delta row (value outline) (map delta tuples) ∷ [])) (drop (k + 1) rows) (map value (drop (k + 1) outlines))) ≡ deltas_by rows (map value outlines)
+    → map delta tuples ++ (next_delta row (value outline) (map delta tuples) ∷ deltas_after (map delta tuples ++ (next_delta row (value outline) (map delta tuples) ∷ [])) (drop (k + 1) rows) (map value (drop (k + 1) outlines))) ≡ deltas_by rows (map value outlines)
 column_next delta value rows outlines k tuples row outline inside also row_is outline_is so_far =
     let next : drop k rows ≡ row ∷ drop (k + 1) rows = rw (drop_more rows k row inside, ← row_is) in
     let next_outline : drop k outlines ≡ outline ∷ drop (k + 1) outlines = rw (drop_more outlines k outline also, ← outline_is) in
@@ -31,8 +31,8 @@ pub column_step : (delta : GlyphTuple → ℤ) (value : Outline → ℤ) (rows :
 column_step delta value rows outlines k tuples tuple row outline inside also row_is outline_is own so_far =
     let next = next_delta row (value outline) (map delta tuples) in
     let grown : map delta (tuples ++ tuple ∷ []) ≡ map delta tuples ++ (next ∷ []) = map_push delta tuples tuple ∙ ap (λ d. map delta tuples ++ (d ∷ [])) own in
-    let rest = deltas_behind (map delta tuples ++ (next ∷ [])) (drop (k + 1) rows) (map value (drop (k + 1) outlines)) in
-    ap (λ deltas. deltas ++ deltas_behind deltas (drop (k + 1) rows) (map value (drop (k + 1) outlines))) grown
+    let rest = deltas_after (map delta tuples ++ (next ∷ [])) (drop (k + 1) rows) (map value (drop (k + 1) outlines)) in
+    ap (λ deltas. deltas ++ deltas_after deltas (drop (k + 1) rows) (map value (drop (k + 1) outlines))) grown
     ∙ (append_assoc (map delta tuples) (next ∷ []) rest ∙ column_next delta value rows outlines k tuples row outline inside also row_is outline_is so_far)
 
 -- the master's delta among those of all
@@ -40,7 +40,7 @@ pub column_here : (delta : GlyphTuple → ℤ) (value : Outline → ℤ) (rows :
     → length tuples ≡ k → IsColumn delta value rows outlines k tuples → delta_at rows (map value outlines) k ≡ next_delta row (value outline) (map delta tuples)
 column_here delta value rows outlines k tuples row outline inside also row_is outline_is count so_far =
     let next = next_delta row (value outline) (map delta tuples) in
-    let rest = deltas_behind (map delta tuples ++ (next ∷ [])) (drop (k + 1) rows) (map value (drop (k + 1) outlines)) in
+    let rest = deltas_after (map delta tuples ++ (next ∷ [])) (drop (k + 1) rows) (map value (drop (k + 1) outlines)) in
     ap (λ deltas. get_or deltas k (pos 0)) (sym (column_next delta value rows outlines k tuples row outline inside also row_is outline_is so_far))
     ∙ get_or_at (map delta tuples) next rest (pos 0) k (length-map tuples delta ∙ count)
 
@@ -63,7 +63,7 @@ kinds_count (contour ∷ contours) =
 
 pub same_points : (outline other : Outline) → contour_kinds outline ≡ contour_kinds other → length (points_of outline) ≡ length (points_of other)
 same_points outline other alike =
-    omega (arith, length-map (all_points outline) place, length-map (all_points other) place, kinds_count outline.contours, kinds_count other.contours, ap (λ kinds. length (flat_map (λ (kind : List Bool). kind) kinds)) alike)
+    omega (arith, length-map (all_points outline) position, length-map (all_points other) position, kinds_count outline.contours, kinds_count other.contours, ap (λ kinds. length (flat_map (λ (kind : List Bool). kind) kinds)) alike)
 
 -- The tuples so far: of each number the masters that are left complete the deltas.
 pub record AreSoFar (rows : List (List ℤ)) (outlines : List Outline) (master : ℕ) (tuples : List GlyphTuple) : Type 0 where

@@ -20,21 +20,21 @@ scalars_at regions at = map (λ region. scalar_of 16 region at) regions
 abbrev pub model_value : List (List Triple) → List ℤ → List ℤ → ℤ
 model_value regions deltas at = dot (scalars_at regions at) deltas
 
--- The delta of a master behind earlier ones: what their deltas leave of its value at its location, rounded to the
+-- The delta of a master after earlier ones: what their deltas leave of its value at its location, rounded to the
 -- nearest number, a tie going down. The row has the scalars of regions at its location, at least of the masters
 -- before it.
 unfoldable pub next_delta : List ℤ → ℤ → List ℤ → ℤ
 next_delta row value earlier = round_down ((pos 65536 *ℤ value) -ℤ dot row earlier) 65536
 
--- the deltas of masters with these rows and values, behind earlier ones
-abbrev pub deltas_behind : List ℤ → List (List ℤ) → List ℤ → List ℤ
-deltas_behind earlier (row ∷ rows) (value ∷ values) =
-    next_delta row value earlier ∷ deltas_behind (earlier ++ (next_delta row value earlier ∷ [])) rows values
-deltas_behind earlier _ _ = []
+-- the deltas of masters with these rows and values, after earlier ones
+abbrev pub deltas_after : List ℤ → List (List ℤ) → List ℤ → List ℤ
+deltas_after earlier (row ∷ rows) (value ∷ values) =
+    next_delta row value earlier ∷ deltas_after (earlier ++ (next_delta row value earlier ∷ [])) rows values
+deltas_after earlier _ _ = []
 
 -- the deltas of masters in their order: one row and one value each
 abbrev pub deltas_by : List (List ℤ) → List ℤ → List ℤ
-deltas_by rows values = deltas_behind [] rows values
+deltas_by rows values = deltas_after [] rows values
 
 -- at each location the scalars of all regions
 abbrev pub whole_rows : List (List Triple) → List (List ℤ) → List (List ℤ)

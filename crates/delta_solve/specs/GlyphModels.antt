@@ -109,7 +109,7 @@ abbrev pub IsStopOf : Option DeltaStop → DeltaStop → Type 0
 IsStopOf fault NoMemory = Unit {0}
 IsStopOf fault (DeltaRange master point y value) = fault ≡ Some (DeltaRange master point y value)
 
--- the delta of a master's point, by its row and behind the earlier tuples
+-- the delta of a master's point, by its row and after the earlier tuples
 abbrev pub next_x : List ℤ → List GlyphTuple → List Pair → ℕ → ℤ
 next_x row earlier points point = next_delta row (x_at point points) (map (delta_x point) earlier)
 

@@ -6,15 +6,15 @@ use Rattle.glif.specs.declared.shape.Outline.{Outline}
 use Rattle.variation_rules.specs.InferredDelta.{still}
 
 -- where a point is
-abbrev pub place : Point → Pair
-place point = record { x = point.x; y = point.y }
+abbrev pub position : Point → Pair
+position point = record { x = point.x; y = point.y }
 
 -- all points of an outline, contour by contour
 abbrev pub all_points : Outline → List Point
 all_points outline = flat_map (λ contour. contour) outline.contours
 
 abbrev pub points_of : Outline → List Pair
-points_of outline = map place (all_points outline)
+points_of outline = map position (all_points outline)
 
 -- how many points each contour has
 abbrev pub contour_lengths : Outline → List ℕ

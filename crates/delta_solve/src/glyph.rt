@@ -5,16 +5,16 @@ ghost use Rattle.glif.specs.Limits.{IsWithinLimits};
 ghost use Rattle.glif.specs.declared.shape.Point.{Point};
 ghost use Rattle.delta_solve.specs.Deltas.{next_delta, rows_of};
 ghost use Rattle.delta_solve.specs.GlyphModels.{AreAlike, AreNextDeltas, AreTuplesBy, IsModelBy, IsModelOf, IsNextTuple, IsStopOf, IsTupleWithin, delta_advance, delta_fault, delta_x, delta_y, fault_by, first_some, misfit, next_misfits, next_point_misfits};
-ghost use Rattle.delta_solve.specs.Outlines.{all_points, contour_lengths, place};
+ghost use Rattle.delta_solve.specs.Outlines.{all_points, contour_lengths, position};
 ghost use Rattle.delta_solve.specs.Tables.{IsScalar, IsTable};
 
 use crate::model::{DeltaStop, GlyphModel, GlyphTuple};
 use crate::number::fitting;
 use crate::scalars::ScalarTable;
 use crate::sums::{Wide, advance_dot, left_of, point_dot};
+use basics::{NoMemory, Seq};
 use fixpoint::Pair;
 use glif::{Outline, Point};
-use basics::{NoMemory, Seq};
 use std::alloc::Global;
 
 // All points of an outline, contour by contour.
@@ -52,7 +52,7 @@ fn kinds(alloc: Global, outline: &Outline) -> Result<Seq<bool>, NoMemory>
     Ok(Seq::from_vec(kinds))
 }
 
-// What a master's point leaves to its delta, behind the earlier tuples.
+// What a master's point leaves to its delta, after the earlier tuples.
 #[tactic(auto, unfolding(crate::specs::Deltas::next_delta))]
 fn point_left(row: &[i32], earlier: &[GlyphTuple], point: usize, at: &Point) -> Wide
     requires few { length row.now ≤ 128 }
@@ -68,7 +68,7 @@ fn point_left(row: &[i32], earlier: &[GlyphTuple], point: usize, at: &Point) -> 
     }
 }
 
-// What a master's advance leaves to its delta, behind the earlier tuples.
+// What a master's advance leaves to its delta, after the earlier tuples.
 #[tactic(auto, unfolding(crate::specs::Deltas::next_delta))]
 fn advance_left(row: &[i32], earlier: &[GlyphTuple], advance: i32) -> i64
     requires few { length row.now ≤ 128 }
@@ -92,7 +92,7 @@ fn fitting_pair(master: u32, point: u32, left: Wide) -> Result<Pair, DeltaStop>
     Ok(Pair { x, y })
 }
 
-// The deltas of a master's points, behind the earlier tuples.
+// The deltas of a master's points, after the earlier tuples.
 fn point_deltas(
     alloc: Global,
     master: u32,
@@ -104,10 +104,10 @@ fn point_deltas(
     requires scalars { All IsScalar row.now }
     requires earlier { All IsTupleWithin earlier.now }
     requires points { length points.now ≤ 4000 }
-    ensures deltas { IfOk result (AreNextDeltas row.now earlier.now (map place points.now)) }
+    ensures deltas { IfOk result (AreNextDeltas row.now earlier.now (map position points.now)) }
     ensures within { IfOk result (All AreFWords) }
-    ensures fits { IfOk result (λ _. first_some (next_point_misfits master row.now earlier.now (map place points.now)) ≡ None) }
-    ensures stops { IfErr result (IsStopOf (first_some (next_point_misfits master row.now earlier.now (map place points.now)))) }
+    ensures fits { IfOk result (λ _. first_some (next_point_misfits master row.now earlier.now (map position points.now)) ≡ None) }
+    ensures stops { IfErr result (IsStopOf (first_some (next_point_misfits master row.now earlier.now (map position points.now)))) }
 {
     let mut deltas = Vec::new(alloc);
     for point in 0..points.len() {
@@ -118,7 +118,7 @@ fn point_deltas(
     Ok(Seq::from_vec(deltas))
 }
 
-// The tuple of a master, behind the earlier ones.
+// The tuple of a master, after the earlier ones.
 fn next_tuple(
     alloc: Global,
     master: u32,

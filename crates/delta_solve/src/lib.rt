@@ -13,7 +13,7 @@ mod tests;
 mod values;
 
 pub use glyph::solve_glyph;
-pub use laws::{masters_return, rows_suffice};
+pub use laws::{masters_law, rows_law};
 pub use model::{DeltaStop, GlyphModel, GlyphTuple};
 pub use number::solve;
 pub use scalars::{ScalarTable, table};

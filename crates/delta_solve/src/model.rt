@@ -1,7 +1,7 @@
 ghost use Rattle.std.specs.Prelude.{◌≡◌};
 
-use fixpoint::Pair;
 use basics::{NoMemory, Seq};
+use fixpoint::Pair;
 use std::alloc::{AllocError, AllocFailed};
 
 /// Why deltas can't be had.

@@ -31,7 +31,7 @@ pub(crate) fn fitting(master: u32, point: u32, y: bool, value: i64) -> Result<i3
     }
 }
 
-// What a master's value leaves to its delta, behind the earlier ones.
+// What a master's value leaves to its delta, after the earlier ones.
 #[tactic(auto, unfolding(crate::specs::Deltas::next_delta))]
 fn number_left(row: &[i32], earlier: &[i32], value: i32) -> i64
     requires few { length row.now ≤ 128 }

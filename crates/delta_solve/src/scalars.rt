@@ -1,6 +1,6 @@
 ghost use Rattle.std.specs.Prelude.{◌≡◌, ℤ, ◌≤◌, All, List, length, IfOk};
 ghost use Rattle.arrayvec.specs.ArrayVec.{array_vec_len};
-ghost use Rattle.region_support.specs.Places.{places_of, regions_in};
+ghost use Rattle.region_support.specs.Coordinates.{coordinates_of, regions_in};
 ghost use Rattle.delta_solve.specs.Deltas.{rows_of, scalars_at};
 ghost use Rattle.delta_solve.specs.Tables.{IsRow, IsScalar, IsTable};
 
@@ -53,7 +53,7 @@ pub(crate) fn scalars_at(supports: &[Support], at: &Location) -> ArrayVec<i32, M
     scalars
 }
 
-// The row of a master at this location, behind masters with these regions.
+// The row of a master at this location, after masters with these regions.
 fn row_at(alloc: Global, earlier: &[Support], at: &Location) -> Result<Seq<i32>, NoMemory>
     requires { length earlier.now ≤ 128 }
     ensures value { IfOk result (λ row. row ≡ scalars_at (regions_in earlier.now) at.now.items) }
@@ -73,7 +73,7 @@ pub fn table(
 ) -> Result<ScalarTable, NoMemory>
     requires one_each { length supports.now ≡ length sorted.now }
     requires few { length sorted.now ≤ 128 }
-    ensures rows { IfOk result (λ table. table ≡ rows_of (regions_in supports.now) (places_of sorted.now)) }
+    ensures rows { IfOk result (λ table. table ≡ rows_of (regions_in supports.now) (coordinates_of sorted.now)) }
     ensures one_each { IfOk result (λ table. length table ≡ length sorted.now) }
 {
     let supports = supports.as_slice();

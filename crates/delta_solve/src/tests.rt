@@ -5,9 +5,9 @@ ghost use Rattle.glif.specs.Shapes.{contour_kinds};
 
 use crate::{DeltaStop, GlyphModel, advance_at, model_at, solve, solve_glyph, table};
 use arrayvec::ArrayVec;
+use basics::{NoMemory, Seq};
 use fixpoint::{Fix, Pair};
 use glif::{Outline, Point};
-use basics::{NoMemory, Seq};
 use region_support::{Location, Support};
 use std::alloc::Global;
 use variation_rules::Triple;
@@ -87,21 +87,25 @@ fn deltas(
     solve(alloc, &values, &table)
 }
 
-// Whether they are these.
-fn are(found: Result<Seq<i32>, DeltaStop>, wanted: &[i32]) -> bool {
-    match found {
-        Ok(deltas) => deltas.as_slice() == wanted,
-        Err(_) => false,
-    }
-}
-
 // A tie goes down, and the next master's delta is what the rounded ones leave.
 #[test]
 fn numbers(rt: HostRuntime) {
     let alloc = rt.alloc();
-    assert!(rt; are(deltas(alloc, &SQUARE, &[0, 1, 0, 1]), &[0, 1, 0, 0]));
-    assert!(rt; are(deltas(alloc, &SQUARE, &[0, 1, 0, 0]), &[0, 1, 0, -1]));
-    assert!(rt; are(deltas(alloc, &LINE, &[10, 30, 20]), &[10, 20, 10]));
+    let found = deltas(alloc, &SQUARE, &[0, 1, 0, 1]).map(|deltas| deltas.into_vec());
+    assert_eq!(rt;
+        found.unwrap_or(Vec::new(alloc)).as_slice(),
+        [0, 1, 0, 0].as_slice()
+    );
+    let found = deltas(alloc, &SQUARE, &[0, 1, 0, 0]).map(|deltas| deltas.into_vec());
+    assert_eq!(rt;
+        found.unwrap_or(Vec::new(alloc)).as_slice(),
+        [0, 1, 0, -1].as_slice()
+    );
+    let found = deltas(alloc, &LINE, &[10, 30, 20]).map(|deltas| deltas.into_vec());
+    assert_eq!(rt;
+        found.unwrap_or(Vec::new(alloc)).as_slice(),
+        [10, 20, 10].as_slice()
+    );
 
     // 16383 - (16383 - 32767 - 32767)
     let stop = deltas(alloc, &CORNERS, &[16383, -16384, -16384, 16383]).err();
@@ -198,8 +202,8 @@ fn glyphs(rt: HostRuntime) {
     assert_eq!(rt; first, (32768, 6553600));
     assert_eq!(rt; second, (-32768, -458752));
     assert_eq!(rt; advance, 33423360);
-    assert!(rt; model.lengths.as_slice() == [2].as_slice());
-    assert!(rt; model.on.as_slice() == [true, true].as_slice());
+    assert_eq!(rt; model.lengths.as_slice(), [2].as_slice());
+    assert_eq!(rt; model.on.as_slice(), [true, true].as_slice());
     let wanted = [
         (500, (0, 100), (0, -7)),
         (20, (1, 0), (1, 0)),
@@ -218,7 +222,7 @@ fn glyphs(rt: HostRuntime) {
                 y: second.1,
             },
         ];
-        assert!(rt; tuple.deltas.as_slice() == deltas.as_slice());
+        assert_eq!(rt; tuple.deltas.as_slice(), deltas.as_slice());
         assert_eq!(rt; tuple.advance, *advance);
     }
 }

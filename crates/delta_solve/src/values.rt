@@ -1,5 +1,5 @@
 ghost use Rattle.std.specs.Prelude.{◌≡◌, ◌≤◌, All, length, map};
-ghost use Rattle.region_support.specs.Places.{regions_in};
+ghost use Rattle.region_support.specs.Coordinates.{regions_in};
 ghost use Rattle.delta_solve.specs.Deltas.{model_value};
 ghost use Rattle.delta_solve.specs.GlyphModels.{IsTupleWithin, delta_advance, delta_x, delta_y};
 

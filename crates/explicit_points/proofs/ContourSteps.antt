@@ -12,10 +12,10 @@ use Rattle.explicit_points.proofs.ExplicitLemmas.{rest_is_whole}
 pub record AreSetsTo (lengths : List ℕ) (points deltas : List Pair) (k start : ℕ) (points_left deltas_left : List Pair) (named : List ℕ) : Type 0 where
   pub completes : (more : List ℕ) → AreLeastSets start (drop k lengths) points_left deltas_left more → AreLeastSets 0 lengths points deltas (named ++ more)
   pub sound : IsOutline (drop k lengths) points_left deltas_left
-  pub place : start + length points_left ≡ length points
+  pub index : start + length points_left ≡ length points
   pub few : length points ≤ 4000
 
--- the contour that comes next, and those behind it
+-- the contour that comes next, and those after it
 pub record IsNext (n : ℕ) (lengths : List ℕ) (points deltas : List Pair) : Type 0 where
   pub inside : n ≤ length points
   pub short : n ≤ 1024
@@ -53,7 +53,7 @@ pub sets_push : (lengths : List ℕ) (points deltas : List Pair) (k start n : �
 sets_push lengths points deltas k start n points_left deltas_left named set inside is sets least =
     let next = sets_next lengths points deltas k start n points_left deltas_left named inside is sets in
     let fits : n ≤ length points_left = next.inside in
-    let place = sets.place in
+    let index = sets.index in
     record {
       completes = λ more rest.
           let own : AreLeastSets start (n ∷ drop (k + 1) lengths) points_left deltas_left (map (λ point. start + point) set ++ more) = (set, more, least, refl, rest) in
@@ -61,7 +61,7 @@ sets_push lengths points deltas k start n points_left deltas_left named set insi
           let onward = subst (λ (ls : List ℕ). AreLeastSets start ls points_left deltas_left (map (λ point. start + point) set ++ more)) (sym (drop_more lengths k 0 inside)) here in
           rw append_assoc (sets.completes (map (λ point. start + point) set ++ more) onward);
       sound = next.rest;
-      place = omega (arith, length-drop n points_left);
+      index = omega (arith, length-drop n points_left);
       few = sets.few;
     }
 

@@ -12,25 +12,25 @@ use Rattle.iup.proofs.SetLemmas.{IsIn, in_or_not, in_bounds, given_in, given_out
 use Rattle.iup.proofs.FillLemmas.{infers_as_filled}
 use Rattle.explicit_points.specs.ExplicitPoints.{IsCount, AreLeastSets}
 
--- ---- members of numbers put behind others
+-- ---- members of numbers put after others
 
 pub in_shifted : (start k : ℕ) (set more : List ℕ) → IsIn k set → IsIn (start + k) (map (λ point. start + point) set ++ more)
 in_shifted start k [] more there = absurd there
 in_shifted start k (x ∷ xs) more (inl same) = inl (ap (λ n. start + n) same)
 in_shifted start k (x ∷ xs) more (inr later) = inr (in_shifted start k xs more later)
 
-pub in_behind : (start x : ℕ) (set more : List ℕ) → IsIn x more → IsIn x (map (λ point. start + point) set ++ more)
-in_behind start x [] more there = there
-in_behind start x (y ∷ set) more there = inr (in_behind start x set more there)
+pub in_after : (start x : ℕ) (set more : List ℕ) → IsIn x more → IsIn x (map (λ point. start + point) set ++ more)
+in_after start x [] more there = there
+in_after start x (y ∷ set) more there = inr (in_after start x set more there)
 
--- a member is one of the first or one of those behind
+-- a member is one of the first or one of those after
 pub in_either : (start x : ℕ) (set more : List ℕ) → IsIn x (map (λ point. start + point) set ++ more) → ((k : ℕ) × IsIn k set × (start + k ≡ x)) ⊎ IsIn x more
 in_either start x [] more there = inr there
 in_either start x (y ∷ set) more (inl same) = inl (y, inl refl, same)
 in_either start x (y ∷ set) more (inr later) =
     ⊎_elim
     (λ (own : (k : ℕ) × IsIn k set × (start + k ≡ x)). inl (own.0, inr own.1, own.2))
-    (λ (behind : IsIn x more). inr behind)
+    (λ (after : IsIn x more). inr after)
     (in_either start x set more later)
 
 -- no named point stands before the first
@@ -39,12 +39,12 @@ named_above start [] points ds named x least there = absurd (subst (λ (w : List
 named_above start (n ∷ lengths) points ds named x least there =
     ⊎_elim
     (λ (own : (k : ℕ) × IsIn k least.0 × (start + k ≡ x)). omega (arith, own.2))
-    (λ (behind : IsIn x least.1). omega (arith, named_above (start + n) lengths (drop n points) (drop n ds) least.1 x least.4 behind))
+    (λ (after : IsIn x least.1). omega (arith, named_above (start + n) lengths (drop n points) (drop n ds) least.1 x least.4 after))
     (in_either start x least.0 least.1 (subst (λ (w : List ℕ). IsIn x w) least.3 there))
 
 -- ---- what is given at the members fills the contours
 
--- the contours behind the first have the other points
+-- the contours after the first have the other points
 pub rest_is_whole : (n : ℕ) (lengths : List ℕ) (points : List Pair) → sum (n ∷ lengths) ≡ length points → (n ≤ length points) × (sum lengths ≡ length (drop n points))
 rest_is_whole n lengths points whole =
     let parts : n + sum lengths ≡ length points = sym (sum_by-cons (λ k. k) n lengths) ∙ whole in
@@ -62,7 +62,7 @@ in_first start n k lengths points ds set more inside least there =
     (λ (own : (j : ℕ) × IsIn j set × (start + j ≡ start + k)).
     let same : own.0 ≡ k = omega (arith, own.2) in
     subst (λ j. IsIn j set) same own.1)
-    (λ (behind : IsIn (start + k) more). absurd (omega (arith, named_above (start + n) lengths points ds more (start + k) least behind)))
+    (λ (after : IsIn (start + k) more). absurd (omega (arith, named_above (start + n) lengths points ds more (start + k) least after)))
     (in_either start (start + k) set more there)
 
 -- a member beyond the first contour is one of the others'
@@ -70,7 +70,7 @@ pub in_others : (start n i : ℕ) (set more : List ℕ) → RisesFrom 0 n set �
 in_others start n i set more rises there =
     ⊎_elim
     (λ (own : (j : ℕ) × IsIn j set × (start + j ≡ start + (n + i))). absurd (omega (arith, own.2, (in_bounds 0 n set own.0 rises own.1).1)))
-    (λ (behind : IsIn (start + (n + i)) more). behind)
+    (λ (after : IsIn (start + (n + i)) more). after)
     (in_either start (start + (n + i)) set more there)
 
 pub fills_from : (start : ℕ) (lengths : List ℕ) (points ds : List Pair) (named : List ℕ) (given : ℕ → Option Pair)
@@ -106,7 +106,7 @@ fills_from start (n ∷ lengths) points ds named given counts whole same least i
           (λ i below there.
           let on : start + n + i ≡ start + (n + i) = omega arith in
           inside (n + i) (omega (arith, length-drop n points))
-          (subst (λ (w : List ℕ). IsIn (start + (n + i)) w) (sym least.3) (in_behind start (start + (n + i)) set more (subst (λ x. IsIn x more) on there)))
+          (subst (λ (w : List ℕ). IsIn (start + (n + i)) w) (sym least.3) (in_after start (start + (n + i)) set more (subst (λ x. IsIn x more) on there)))
           ∙ ap (λ (d : Pair). Some d) (sym (get_or-drop n ds i still)))
           (λ i below absent.
           let on : start + n + i ≡ start + (n + i) = omega arith in

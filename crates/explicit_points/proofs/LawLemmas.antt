@@ -13,12 +13,12 @@ use Rattle.explicit_points.proofs.ExplicitLemmas.{fills_from}
 use Rattle.explicit_points.proofs.MovingLemmas.{in_rising, moving_rises, moving_all, still_of_none, none_of_still}
 use Rattle.explicit_points.proofs.SetsLemmas.{sets_once, sets_rise, rises_join, nil_parts, still_of_no_set, no_set_of_still}
 
--- ---- members of a list behind another
+-- ---- members of a list after another
 
-in_front : (x : ℕ) (xs ys : List ℕ) → IsIn x xs → IsIn x (xs ++ ys)
-in_front x [] ys there = absurd there
-in_front x (z ∷ xs) ys (inl same) = inl same
-in_front x (z ∷ xs) ys (inr later) = inr (in_front x xs ys later)
+before : (x : ℕ) (xs ys : List ℕ) → IsIn x xs → IsIn x (xs ++ ys)
+before x [] ys there = absurd there
+before x (z ∷ xs) ys (inl same) = inl same
+before x (z ∷ xs) ys (inr later) = inr (before x xs ys later)
 
 in_end : (x : ℕ) (xs ys : List ℕ) → IsIn x ys → IsIn x (xs ++ ys)
 in_end x [] ys there = there
@@ -29,7 +29,7 @@ in_parts x [] ys there = inr there
 in_parts x (z ∷ xs) ys (inl same) = inl (inl same)
 in_parts x (z ∷ xs) ys (inr later) =
     ⊎_elim
-    (λ (front : IsIn x xs). inl (inr front))
+    (λ (prefix : IsIn x xs). inl (inr prefix))
     (λ (end : IsIn x ys). inr end)
     (in_parts x xs ys later)
 
@@ -46,7 +46,7 @@ module _ (lengths : List ℕ) (points deltas : List Pair) (named : List ℕ) (gl
   outline_in i inside there =
       let n = length points in
       let here : 0 + i ≡ i = omega arith in
-      let member : IsIn i named = subst (λ (xs : List ℕ). IsIn i xs) (sym are.all) (in_front i are.outline (moving_from n (drop n deltas)) (subst (λ x. IsIn x are.outline) here there)) in
+      let member : IsIn i named = subst (λ (xs : List ℕ). IsIn i xs) (sym are.all) (before i are.outline (moving_from n (drop n deltas)) (subst (λ x. IsIn x are.outline) here there)) in
       given_in named deltas i member ∙ ap (λ (d : Pair). Some d) (sym (get_or-take n deltas i still inside))
 
   outline_out : (i : ℕ) → i < length points → (IsIn (0 + i) are.outline → ⊥) → given_by named deltas i ≡ None
@@ -55,7 +55,7 @@ module _ (lengths : List ℕ) (points deltas : List Pair) (named : List ℕ) (gl
       let here : i ≡ 0 + i = omega arith in
       given_out named deltas i
       (λ there. ⊎_elim
-      (λ (front : IsIn i are.outline). absent (subst (λ x. IsIn x are.outline) here front))
+      (λ (prefix : IsIn i are.outline). absent (subst (λ x. IsIn x are.outline) here prefix))
       (λ (end : IsIn i (moving_from n (drop n deltas))).
       omega (arith, (in_rising n (n + length (drop n deltas)) (moving_from n (drop n deltas)) i (moving_rises n (n + length (drop n deltas)) (drop n deltas) (omega arith)) end).0))
       (in_parts i are.outline (moving_from n (drop n deltas)) (subst (λ (xs : List ℕ). IsIn i xs) are.all there)))
@@ -64,15 +64,15 @@ module _ (lengths : List ℕ) (points deltas : List Pair) (named : List ℕ) (gl
   phantom_is phantom beyond =
       let n = length points in
       let k = phantom - n in
-      let place : n + k ≡ phantom = omega arith in
+      let index : n + k ≡ phantom = omega arith in
       ⊎_elim
       (λ (there : IsIn phantom named). ap (λ o. unwrap_or o still) (given_in named deltas phantom there))
       (λ (absent : IsIn phantom named → ⊥).
       let alone : get_or (drop n deltas) k still ≡ still = moving_all n k (drop n deltas)
-      (λ there. absent (subst (λ (xs : List ℕ). IsIn phantom xs) (sym are.all) (in_end phantom are.outline (moving_from n (drop n deltas)) (subst (λ x. IsIn x (moving_from n (drop n deltas))) place there))))
+      (λ there. absent (subst (λ (xs : List ℕ). IsIn phantom xs) (sym are.all) (in_end phantom are.outline (moving_from n (drop n deltas)) (subst (λ x. IsIn x (moving_from n (drop n deltas))) index there))))
       in
       ap (λ o. unwrap_or o still) (given_out named deltas phantom absent)
-      ∙ (sym alone ∙ (get_or-drop n deltas k still ∙ ap (λ x. get_or deltas x still) place)))
+      ∙ (sym alone ∙ (get_or-drop n deltas k still ∙ ap (λ x. get_or deltas x still) index)))
       (in_or_not phantom named)
 
 pub explicit_fills : ExplicitFills
@@ -113,10 +113,10 @@ explicit_none lengths points deltas named glyph are =
 
 -- ---- the outline and the phantom points apart
 
--- the least sets of the outline, and behind them the phantom points that move
-pub explicit_of : (lengths : List ℕ) (points deltas own behind : List Pair) (outline named : List ℕ) → own ≡ take (length points) deltas → behind ≡ drop (length points) deltas → AreLeastSets 0 lengths points own outline → named ≡ outline ++ moving_from (length points) behind → AreExplicit lengths points deltas named
-explicit_of lengths points deltas own behind outline named front back least all = record {
+-- the least sets of the outline, and after them the phantom points that move
+pub explicit_of : (lengths : List ℕ) (points deltas own after : List Pair) (outline named : List ℕ) → own ≡ take (length points) deltas → after ≡ drop (length points) deltas → AreLeastSets 0 lengths points own outline → named ≡ outline ++ moving_from (length points) after → AreExplicit lengths points deltas named
+explicit_of lengths points deltas own after outline named prefix back least all = record {
   outline = outline;
-  least = subst (λ (ds : List Pair). AreLeastSets 0 lengths points ds outline) front least;
+  least = subst (λ (ds : List Pair). AreLeastSets 0 lengths points ds outline) prefix least;
   all = all ∙ ap (λ (ds : List Pair). outline ++ moving_from (length points) ds) back;
 }

@@ -68,10 +68,10 @@ moving_all number zero (delta ∷ deltas) absent =
     (cases_Bool (is_still delta))
 moving_all number (suc k) (delta ∷ deltas) absent =
     let on : number + 1 + k ≡ number + suc k = omega arith in
-    moving_all (number + 1) k deltas (λ there. let place = subst (λ x. IsIn x (moving_from (number + 1) deltas)) on there in
+    moving_all (number + 1) k deltas (λ there. let index = subst (λ x. IsIn x (moving_from (number + 1) deltas)) on there in
     ⊎_elim
-    (λ (is : is_still delta ≡ true). absent (rw (moving_skips number delta deltas is) place))
-    (λ (isnt : is_still delta ≡ false). absent (rw (moving_takes number delta deltas isnt) (inr place)))
+    (λ (is : is_still delta ≡ true). absent (rw (moving_skips number delta deltas is) index))
+    (λ (isnt : is_still delta ≡ false). absent (rw (moving_takes number delta deltas isnt) (inr index)))
     (cases_Bool (is_still delta)))
 
 -- ---- nothing moves exactly where there is no number

@@ -61,7 +61,7 @@ shifted_rises start low n (x ∷ xs) rises =
       subst (λ k. RisesWithin k (start + n) (map (λ point. start + point) xs)) on (shifted_rises start (x + 1) n xs rises.2),
     )
 
--- a rising list behind another
+-- a rising list after another
 pub rises_join : (low mid end : ℕ) (xs ys : List ℕ) → low ≤ mid → mid ≤ end → RisesWithin low mid xs → RisesWithin mid end ys → RisesWithin low end (xs ++ ys)
 rises_join low mid end [] ys lower upper first second = rises_from_lower low mid end ys lower second
 rises_join low mid end (x ∷ xs) ys lower upper first second =

@@ -22,7 +22,7 @@ pub record IsOutline (lengths : List ℕ) (points deltas : List Pair) : Type 0 w
   pub points_fit : All AreFWords points
   pub deltas_fit : All AreFWords deltas
 
--- The default drawing of a glyph and the deltas of its points, the four phantom points behind the outline's.
+-- The default drawing of a glyph and the deltas of its points, the four phantom points after the outline's.
 pub record IsGlyph (lengths : List ℕ) (points deltas : List Pair) : Type 0 where
   pub contours : All IsCount lengths
   pub whole : sum lengths ≡ length points

@@ -4,15 +4,15 @@ ghost use Rattle.variation_rules.specs.InferredDelta.{still};
 ghost use Rattle.variation_rules.specs.PackedPoints.{RisesWithin};
 ghost use Rattle.explicit_points.specs.ExplicitPoints.{IsGlyph, IsOutline, AreExplicit, AreLeastSets, is_still, moving_from};
 
-use fixpoint::Pair;
-use iup_optimal::least;
 use basics::{NoMemory, Seq};
+use fixpoint::Pair;
+use iup_optimal::least_points;
 use std::alloc::Global;
 
 /// The points that a tuple variation of a glyph names: on each contour the least set of points from which all
-/// its deltas are inferred, and behind them the phantom points that move. `lengths` are the numbers of points
+/// its deltas are inferred, and after them the phantom points that move. `lengths` are the numbers of points
 /// of the contours, `points` the outline's points in the default drawing, at most 4,000, and `deltas` those of
-/// all points, the four phantom points behind the outline's, all of 16 bits. They rise; there is none exactly
+/// all points, the four phantom points after the outline's, all of 16 bits. They rise; there is none exactly
 /// where nothing moves.
 pub fn explicit_points(
     alloc: Global,
@@ -48,8 +48,8 @@ fn least_sets(
     for length in lengths {
         let (own, after) = points.split_at(usize::from(*length));
         let (moves, moves_after) = deltas.split_at(usize::from(*length));
-        let least = least(alloc, own, moves)?;
-        push_contour(&mut named, start, least.points.as_slice())?;
+        let set = least_points(alloc, own, moves)?;
+        push_contour(&mut named, start, set.as_slice())?;
         start += usize::from(*length);
         points = after;
         deltas = moves_after;

@@ -3,9 +3,10 @@ ghost use Rattle.variation_rules.specs.FontUnits.{AreFWords};
 ghost use Rattle.explicit_points.specs.ExplicitPoints.{IsOutline};
 
 use crate::explicit_points;
-use fixpoint::Pair;
 use basics::{NoMemory, Seq};
+use fixpoint::Pair;
 use std::alloc::Global;
+use std::test::Fail;
 
 // The deltas in x of four points, which don't move in y.
 type Moves = (i16, i16, i16, i16);
@@ -65,27 +66,38 @@ fn named(alloc: Global, contours: &[Moves], phantom: Moves) -> Result<Seq<u16>, 
     explicit_points(alloc, &lengths, &points, &deltas)
 }
 
-// Whether these are the points named.
-fn are_named(alloc: Global, contours: &[Moves], phantom: Moves, wanted: &[u16]) -> bool {
-    if contours.len() > 1000 {
-        return false;
-    }
-    match named(alloc, contours, phantom) {
-        Ok(points) => points.as_slice() == wanted,
-        Err(NoMemory) => false,
-    }
-}
-
 #[test]
-fn points_by_hand(rt: HostRuntime) {
+fn points_by_hand(rt: HostRuntime) -> Result<(), Fail> {
     let alloc = rt.alloc();
-    assert!(rt; are_named(alloc, &[WIDER], STILL, &[0, 1]));
-    assert!(rt; are_named(alloc, &[WIDER, WIDER], STILL, &[0, 1, 4, 5]));
-    assert!(rt; are_named(alloc, &[WIDER, STILL, WIDER], STILL, &[0, 1, 8, 9]));
+    assert_eq!(rt;
+        named(alloc, &[WIDER], STILL)?.as_slice(),
+        [0, 1].as_slice()
+    );
+    assert_eq!(rt;
+        named(alloc, &[WIDER, WIDER], STILL)?.as_slice(),
+        [0, 1, 4, 5].as_slice()
+    );
+    assert_eq!(rt;
+        named(alloc, &[WIDER, STILL, WIDER], STILL)?.as_slice(),
+        [0, 1, 8, 9].as_slice()
+    );
     // The second phantom point, whose delta is that of the advance.
-    assert!(rt; are_named(alloc, &[STILL], (0, 30, 0, 0), &[5]));
-    assert!(rt; are_named(alloc, &[WIDER], (0, 30, 0, -10), &[0, 1, 5, 7]));
-    assert!(rt; are_named(alloc, &[STILL, STILL], STILL, &[]));
+    assert_eq!(rt;
+        named(alloc, &[STILL], (0, 30, 0, 0))?.as_slice(),
+        [5].as_slice()
+    );
+    assert_eq!(rt;
+        named(alloc, &[WIDER], (0, 30, 0, -10))?.as_slice(),
+        [0, 1, 5, 7].as_slice()
+    );
+    assert_eq!(rt;
+        named(alloc, &[STILL, STILL], STILL)?.as_slice(),
+        [].as_slice()
+    );
     // A glyph without an outline.
-    assert!(rt; are_named(alloc, &[], (0, 30, 0, 0), &[1]));
+    assert_eq!(rt;
+        named(alloc, &[], (0, 30, 0, 0))?.as_slice(),
+        [1].as_slice()
+    );
+    Ok(())
 }

@@ -3,7 +3,7 @@ use Rattle.std.proofs.Common.{◌≡◌, ℕ, ◌≤◌, Bool, true, false, cond
 use Rattle.std.specs.Prelude.{◌==◌, nat_lt}
 use Rattle.std.specs.List.{list_all}
 use Rattle.std.specs.Char.{is_ascii_digit}
-use Rattle.std.proofs.lemmas.Bool.{and_parts, ltb-true, lt-ltb, eqb-true, cond-true}
+use Rattle.std.proofs.lemmas.Bool.{and_parts, ltb-true, lt-ltb, eqb-true}
 use Rattle.std.proofs.lemmas.Bool.Decides.{nat_tests}
 use Rattle.std.proofs.lemmas.Option.{cond_some, some_pair_parts}
 use Rattle.fixpoint.specs.DecimalText.{Decimal, Sign, no_sign, plus, minus, sign_text, is_minus, fraction_text, Spells, digits_at, decimals_at, unsigned_of, signed_of, decimal_of}
@@ -67,8 +67,8 @@ record IsProper (whole decimals after : List ℕ) : Type 0 where
 unsigned_again : (is_negative : Bool) (whole decimals after : List ℕ) → IsProper whole decimals after → unsigned_of is_negative (tail_text whole decimals after) ≡ Some (number is_negative whole decimals)
 unfolding unsigned_of
 unsigned_again is_negative whole decimals after proper =
-    let front = digits_again whole (fraction_text decimals ++ after) proper.digits proper.some (fraction_stops decimals after proper.blank) in
-    rw (front, decimals_again decimals after proper.decimal_digits proper.blank, proper.blank) refl
+    let prefix = digits_again whole (fraction_text decimals ++ after) proper.digits proper.some (fraction_stops decimals after proper.blank) in
+    rw (prefix, decimals_again decimals after proper.decimal_digits proper.blank, proper.blank) refl
 
 signed_again : (sign : Sign) (whole decimals after : List ℕ) → IsProper whole decimals after → signed_of (sign_text sign ++ tail_text whole decimals after) ≡ Some (number (is_minus sign) whole decimals)
 unfolding signed_of
@@ -108,22 +108,22 @@ unfolding digits_at
 digits_takes bytes digits rest found =
     let run = run_at is_ascii_digit bytes in
     let test = cond_some (nat_lt 0 (length run)) (run, after_run is_ascii_digit bytes) (digits, rest) found in
-    let front : run ≡ digits = ap (λ p. p.0) test.1 in
+    let prefix : run ≡ digits = ap (λ p. p.0) test.1 in
     let back : after_run is_ascii_digit bytes ≡ rest = ap (λ p. p.1) test.1 in
     record {
-      some = omega (arith, ltb-true 0 (length run) test.0, ap length front);
-      all = subst (λ ds. list_all is_ascii_digit ds ≡ true) front (run_all is_ascii_digit bytes);
-      spelled = run_whole is_ascii_digit bytes ∙ (ap (λ ds. ds ++ after_run is_ascii_digit bytes) front ∙ ap (λ bs. digits ++ bs) back);
+      some = omega (arith, ltb-true 0 (length run) test.0, ap length prefix);
+      all = subst (λ ds. list_all is_ascii_digit ds ≡ true) prefix (run_all is_ascii_digit bytes);
+      spelled = run_whole is_ascii_digit bytes ∙ (ap (λ ds. ds ++ after_run is_ascii_digit bytes) prefix ∙ ap (λ bs. digits ++ bs) back);
     }
 
 record TakesDecimals (bytes decimals rest : List ℕ) : Type 0 where
   all : list_all is_ascii_digit decimals ≡ true
   spelled : bytes ≡ fraction_text decimals ++ rest
 
--- decimals behind a point, of which there is one at least
-behind_point : (bytes decimals rest : List ℕ) → TakesDigits bytes decimals rest → 46 ∷ bytes ≡ fraction_text decimals ++ rest
-behind_point bytes [] rest taken = absurd (omega (arith, taken.some))
-behind_point bytes (d ∷ decimals) rest taken = ap (λ bs. 46 ∷ bs) taken.spelled
+-- decimals after a point, of which there is one at least
+after_point : (bytes decimals rest : List ℕ) → TakesDigits bytes decimals rest → 46 ∷ bytes ≡ fraction_text decimals ++ rest
+after_point bytes [] rest taken = absurd (omega (arith, taken.some))
+after_point bytes (d ∷ decimals) rest taken = ap (λ bs. 46 ∷ bs) taken.spelled
 
 no_decimals : (bytes decimals rest : List ℕ) → ([] ≡ decimals) × (bytes ≡ rest) → TakesDecimals bytes decimals rest
 no_decimals bytes decimals rest parts = record {
@@ -134,7 +134,7 @@ no_decimals bytes decimals rest parts = record {
 decimals_step : (b : ℕ) (bytes decimals rest : List ℕ) (point : Bool) → (b == 46) ≡ point → cond point (digits_at bytes) (Some ([], b ∷ bytes)) ≡ Some (decimals, rest) → TakesDecimals (b ∷ bytes) decimals rest
 decimals_step b bytes decimals rest true test found =
     let taken = digits_takes bytes decimals rest found in
-    record { all = taken.all; spelled = ap (λ c. c ∷ bytes) (eqb-true b 46 test) ∙ behind_point bytes decimals rest taken }
+    record { all = taken.all; spelled = ap (λ c. c ∷ bytes) (eqb-true b 46 test) ∙ after_point bytes decimals rest taken }
 decimals_step b bytes decimals rest false test found = no_decimals (b ∷ bytes) decimals rest (some_pair_parts [] decimals (b ∷ bytes) rest found)
 
 decimals_takes : (bytes decimals rest : List ℕ) → decimals_at bytes ≡ Some (decimals, rest) → TakesDecimals bytes decimals rest
@@ -164,12 +164,12 @@ unsigned_takes is_negative bytes decimal found =
     let whole = bind_some (digits_at bytes) (λ whole. decimals_at whole.1 >>= end_of is_negative whole.0) decimal found in
     let decimals = bind_some (decimals_at whole.0.1) (end_of is_negative whole.0.0) decimal whole.2 in
     let test = cond_some (list_all is_blank decimals.0.1) (number is_negative whole.0.0 decimals.0.0) decimal decimals.2 in
-    let front = digits_takes bytes whole.0.0 whole.0.1 whole.1 in
+    let prefix = digits_takes bytes whole.0.0 whole.0.1 whole.1 in
     let back = decimals_takes whole.0.1 decimals.0.0 decimals.0.1 decimals.1 in
     subst (TakesUnsigned is_negative bytes) test.1
     (unsigned_found is_negative bytes whole.0.0 decimals.0.0 decimals.0.1
-    (record { some = front.some; digits = front.all; decimal_digits = back.all; blank = test.0 })
-    (unsigned_parts bytes whole.0.0 whole.0.1 decimals.0.0 decimals.0.1 front.spelled back.spelled))
+    (record { some = prefix.some; digits = prefix.all; decimal_digits = back.all; blank = test.0 })
+    (unsigned_parts bytes whole.0.0 whole.0.1 decimals.0.0 decimals.0.1 prefix.spelled back.spelled))
 
 record TakesSigned (bytes : List ℕ) (decimal : Decimal) : Type 0 where
   sign : Sign

@@ -40,7 +40,7 @@ with_sign_capped is_negative n = with_sign_cases is_negative n (cases_lt n (2 ^ 
 
 -- ---- decimals
 
--- digits behind a number move it to the left
+-- digits after a number move it to the left
 number_split : (n m : ℕ) (digits : List ℕ) → number_after (n + m) digits ≡ n * 10 ^ length digits + number_after m digits
 number_split n m [] = omega arith
 number_split n m (d ∷ digits) =
@@ -49,15 +49,15 @@ number_split n m (d ∷ digits) =
     ap (λ (k : ℕ). number_after k digits) regroup ∙ (number_split (n * 10) (m * 10 + (d - 48)) digits ∙ ap (λ (k : ℕ). k + number_after (m * 10 + (d - 48)) digits) power)
 
 -- two runs of digits as one
-number_append : (n : ℕ) (front back : List ℕ) → number_after n (front ++ back) ≡ number_after (number_after n front) back
+number_append : (n : ℕ) (prefix back : List ℕ) → number_after n (prefix ++ back) ≡ number_after (number_after n prefix) back
 number_append n [] back = refl
-number_append n (d ∷ front) back = number_append (n * 10 + (d - 48)) front back
+number_append n (d ∷ prefix) back = number_append (n * 10 + (d - 48)) prefix back
 
 -- one digit more at the end
-number_push : (n : ℕ) (front : List ℕ) (d : ℕ) → number_after n (front ++ d ∷ []) ≡ number_after n front * 10 + (d - 48)
-number_push n front d = number_append n front (d ∷ [])
+number_push : (n : ℕ) (prefix : List ℕ) (d : ℕ) → number_after n (prefix ++ d ∷ []) ≡ number_after n prefix * 10 + (d - 48)
+number_push n prefix d = number_append n prefix (d ∷ [])
 
--- a byte adds at most 207 to a place
+-- a byte adds at most 207 to a digit
 pub number_small : (n i d : ℕ) → n + 23 ≤ 23 * 10 ^ i → d ≤ 207 → (n * 10 + d) + 23 ≤ 23 * 10 ^ (i + 1)
 number_small n i d small digit = rw (add-one, pow-suc) (omega arith)
 
@@ -74,7 +74,7 @@ filled_length : (decimals : List ℕ) → 18 ≤ length (filled decimals)
 unfolding filled
 filled_length decimals = omega (arith, length-append decimals (replicate 18 48), length-replicate {A = ℕ} 18 48)
 
--- the decimal at a place
+-- the decimal at an index
 filled_at : (decimals : List ℕ) (i : ℕ) → i < 18 → get_or (filled decimals) i 0 ≡ get_or decimals i 48
 unfolding filled
 filled_at decimals i few = get_filled decimals (replicate 18 48) 18 i refl few
@@ -91,10 +91,10 @@ decimals_next decimals i few =
 scaled_parts : (number : Decimal) → scaled number ≡ number_after 0 number.whole * 10 ^ 18 + number_after 0 (take 18 (filled number.decimals))
 unfolding scaled
 scaled_parts number =
-    let front = number_after 0 number.whole in
+    let prefix = number_after 0 number.whole in
     let back = take 18 (filled number.decimals) in
     let count : length back ≡ 18 = omega (arith, length-take 18 (filled number.decimals), filled_length number.decimals) in
-    number_append 0 number.whole back ∙ (ap (λ (n : ℕ). number_after n back) (sym (add-zero front)) ∙ (number_split front 0 back ∙ ap (λ (n : ℕ). front * 10 ^ n + number_after 0 back) count))
+    number_append 0 number.whole back ∙ (ap (λ (n : ℕ). number_after n back) (sym (add-zero prefix)) ∙ (number_split prefix 0 back ∙ ap (λ (n : ℕ). prefix * 10 ^ n + number_after 0 back) count))
 
 -- what the formula of rounding gives
 abbrev far_size : ℕ → ℕ → ℕ
@@ -116,6 +116,6 @@ pub fix16_parts : (number : Decimal)
     → with_sign number.is_negative (round_up (pos ((min (number_after 0 number.whole) (2 ^ 40) * 10 ^ 18 + number_after 0 (take 18 (filled number.decimals))) * 65536)) (10 ^ 18))
     ≡ with_sign number.is_negative (round_up (pos (scaled number * 65536)) (10 ^ 18))
 fix16_parts number =
-    let front = number_after 0 number.whole in
+    let prefix = number_after 0 number.whole in
     let back = number_after 0 (take 18 (filled number.decimals)) in
-    far_cases number.is_negative front back (cases_lt front (2 ^ 40)) ∙ ap (λ (n : ℕ). with_sign number.is_negative (round_up (pos (n * 65536)) (10 ^ 18))) (sym (scaled_parts number))
+    far_cases number.is_negative prefix back (cases_lt prefix (2 ^ 40)) ∙ ap (λ (n : ℕ). with_sign number.is_negative (round_up (pos (n * 65536)) (10 ^ 18))) (sym (scaled_parts number))

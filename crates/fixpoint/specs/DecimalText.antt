@@ -9,7 +9,7 @@ use Rattle.fixpoint.specs.declared.decimal.NumberFault.TheVariants.{NotNumber, N
 use Rattle.basics.specs.Bytes.{is_blank, run_at, after_run}
 use Rattle.basics.specs.Optional.{◌>>=◌}
 
--- a number as it is written: its digits before the point and behind it, each as a byte
+-- a number as it is written: its digits before the point and after it, each as a byte
 pub record Decimal : Type 0 where
   pub is_negative : Bool
   pub whole : List ℕ
@@ -61,7 +61,7 @@ unfoldable pub decimals_at : List ℕ → Option (List ℕ × List ℕ)
 decimals_at [] = Some ([], [])
 decimals_at (b ∷ bytes) = if b == 46 then digits_at bytes else Some ([], b ∷ bytes)
 
--- a number behind its sign, with blanks alone after it
+-- a number after its sign, with blanks alone after it
 unfoldable pub unsigned_of : Bool → List ℕ → Option Decimal
 unsigned_of is_negative bytes = do
   whole ← digits_at bytes

@@ -21,7 +21,7 @@ pub enum NumberFault {
     NumberRange,
 }
 
-/// A number as it is written: the digits before the point and those behind it, each an ASCII digit.
+/// A number as it is written: the digits before the point and those after it, each an ASCII digit.
 #[derive(Clone, Copy)]
 struct Parts<'a> {
     is_negative: bool,
@@ -41,21 +41,21 @@ const ONE: u128 = 1_000_000_000_000_000_000;
 /// The greatest number without its sign.
 const GREATEST: u128 = 2_147_483_647;
 
-/// How many digits stand at the front.
+/// How many digits stand at the start.
 fn digit_count(text: &[u8]) -> usize
     ensures count { result ≡ length (run_at is_ascii_digit text.now) }
     ensures within { result ≤ length text.now }
 {
-    for (place, byte) in text.iter().enumerate() {
+    for (index, byte) in text.iter().enumerate() {
         if !byte.is_ascii_digit() {
-            return place;
+            return index;
         }
     }
     text.len()
 }
 
-/// The digits at the front, one at least, and what follows them.
-#[tactic(auto, using(basics::proofs::Runs::front_of_run, basics::proofs::Runs::rest_of_run), unfolding(crate::specs::DecimalText::digits_at))]
+/// The digits at the start, one at least, and what follows them.
+#[tactic(auto, using(basics::proofs::Runs::prefix_of_run, basics::proofs::Runs::rest_of_run), unfolding(crate::specs::DecimalText::digits_at))]
 fn digits_at(text: &[u8]) -> Option<(&[u8], &[u8])>
     ensures { Agrees (λ found. (found.0.now, found.1.now)) result (digits_at text.now) }
 {
@@ -68,25 +68,18 @@ fn digits_at(text: &[u8]) -> Option<(&[u8], &[u8])>
     }
 }
 
-/// The decimals, if a point stands at the front, and what follows them.
+/// The decimals, if a point stands at the start, and what follows them.
 #[tactic(auto, unfolding(crate::specs::DecimalText::decimals_at))]
 fn decimals_at(text: &[u8]) -> Option<(&[u8], &[u8])>
     ensures { Agrees (λ found. (found.0.now, found.1.now)) result (decimals_at text.now) }
 {
     match text {
-        [] => Some((&[], &[])),
-        [byte, rest @ ..] => {
-            if *byte == b'.' {
-                let found = digits_at(rest)?;
-                Some(found)
-            } else {
-                Some((&[], text))
-            }
-        }
+        [b'.', rest @ ..] => digits_at(rest),
+        _ => Some((&[], text)),
     }
 }
 
-/// A number behind its sign, with blanks alone after it.
+/// A number after its sign, with blanks alone after it.
 #[tactic(auto, unfolding(crate::specs::DecimalText::unsigned_of))]
 fn unsigned_of(is_negative: bool, text: &[u8]) -> Option<Parts<'_>>
     ensures { Agrees (λ found. parts_view found) result (unsigned_of is_negative text.now) }
@@ -111,18 +104,9 @@ fn signed_of(text: &[u8]) -> Option<Parts<'_>>
 {
     match text {
         [] => None,
-        [sign, rest @ ..] => {
-            if *sign == b'-' {
-                let number = unsigned_of(true, rest)?;
-                Some(number)
-            } else if *sign == b'+' {
-                let number = unsigned_of(false, rest)?;
-                Some(number)
-            } else {
-                let number = unsigned_of(false, text)?;
-                Some(number)
-            }
-        }
+        [b'-', rest @ ..] => unsigned_of(true, rest),
+        [b'+', rest @ ..] => unsigned_of(false, rest),
+        _ => unsigned_of(false, text),
     }
 }
 
@@ -131,8 +115,7 @@ fn signed_of(text: &[u8]) -> Option<Parts<'_>>
 fn decimal_of(text: &[u8]) -> Option<Parts<'_>>
     ensures { Agrees parts_view result (decimal_of text.now) }
 {
-    let number = signed_of(after_blanks(text))?;
-    Some(number)
+    signed_of(after_blanks(text))
 }
 
 /// The number with one more digit, or `CAP` where it is greater.
@@ -155,11 +138,11 @@ fn number_up_to_cap(digits: &[u8]) -> u64
     number
 }
 
-/// The decimal at a place, 0 where the decimals end before it.
-fn decimal_at(decimals: &[u8], place: usize) -> u8
-    ensures { result ≡ slice_index_or decimals.now place 48 }
+/// The decimal at an index, 0 where the decimals end before it.
+fn decimal_at(decimals: &[u8], index: usize) -> u8
+    ensures { result ≡ slice_index_or decimals.now index 48 }
 {
-    match decimals.get(place) {
+    match decimals.get(index) {
         Some(digit) => *digit,
         None => b'0',
     }
@@ -171,8 +154,8 @@ fn first_decimals(decimals: &[u8]) -> u128
     ensures size { result ≤ 23 * 10 ^ 18 }
 {
     let mut number: u128 = 0;
-    for place in 0..DECIMALS {
-        let digit = decimal_at(decimals, place);
+    for index in 0..DECIMALS {
+        let digit = decimal_at(decimals, index);
         number = number * 10 + u128::from(digit.saturating_sub(b'0'));
     }
     number

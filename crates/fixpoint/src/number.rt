@@ -9,7 +9,7 @@ use std::marker::Model;
 use std::ops::{Add, Neg, Sub};
 
 /// A signed fixed-point number with `F` binary places, at most 30: it means its raw number / 2^`F`.
-/// OpenType's `F2DOT14` has 14 places and its `Fixed` 16 ("Data Types"). Contracts see the raw number.
+/// OpenType's `F2DOT14` has 14 binary places and its `Fixed` 16 ("Data Types"). Contracts see the raw number.
 /// Equality, order and hash are those of the raw number, and so of the number meant; sums, differences
 /// and negations are those of the numbers, and take a raw result that fits. The default is 0.
 #[derive(Clone, Copy, Debug, Default, PartialEq, Eq, PartialOrd, Ord, Hash)]

@@ -1,4 +1,4 @@
-/// Two whole numbers of the plane, as the place of a point or a delta: x to the right and y up, in
+/// Two whole numbers of the plane, as a point or a delta: x to the right and y up, in
 /// font design units.
 #[derive(Clone, Copy, Debug, Default, PartialEq, Eq)]
 pub struct Pair {

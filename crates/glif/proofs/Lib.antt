@@ -1,7 +1,7 @@
 mod Hexadecimal
 mod Outside
-mod PlainDrawings
-mod PlainNumbers
-mod PlainPoints
-mod PlainTexts
+mod PrintedDrawings
+mod PrintedNumbers
+mod PrintedPoints
+mod PrintedTexts
 pub mod ReadLimits

@@ -1,73 +1,48 @@
 -- What is read off a tree is within limits.
-use Rattle.std.proofs.Common.{◌≡◌, ℕ, ◌≤◌, ℤ, pos, negsuc, ◌≤ℤ◌, int_le, Bool, true, false, ◌&&◌, List, [], ◌∷◌, length, filter, codes, Option, Some, None, Ok, Err, refl, subst, arith, if◌then◌else◌}
+use Rattle.std.proofs.Common.{◌≡◌, ℕ, ◌≤◌, ℤ, pos, Bool, true, false, List, [], ◌∷◌, length, filter, codes, Option, Some, None, Ok, subst, arith}
 use Rattle.std.specs.Prelude.{All, IfOk, MatchOption, Result, sum_by, nat_le, unwrap_or}
-use Rattle.std.proofs.lemmas.Grind.{common_steps}
 use Rattle.std.proofs.lemmas.Int.{ints}
 use Rattle.std.proofs.lemmas.Bool.Decides.{nat_tests}
 use Rattle.std.proofs.lemmas.List.Elements.{All-nil, All-cons, All-append}
-use Rattle.basics.specs.Reading.{◌>>=◌, each, in_turn}
+use Rattle.basics.specs.Reading.{each, in_turn}
 use Rattle.basics.specs.declared.fault.Spot.{Spot}
-use Rattle.markup_rules.specs.Tree.{Tree, attribute_of, children_of, is_named}
+use Rattle.markup_rules.specs.Tree.{Tree, children_of, is_named}
 use Rattle.glif.specs.declared.shape.Component.{Component}
 use Rattle.glif.specs.declared.shape.Drawing.{Drawing}
 use Rattle.glif.specs.declared.shape.Point.{Point}
 use Rattle.glif.specs.declared.outline.Shapes.{Shapes}
 use Rattle.glif.specs.declared.glyph.Seen.{Seen}
-use Rattle.glif.specs.Attributes.{coordinate, needed, optional, ranged, whole, whole_or_zero}
+use Rattle.attributes.specs.Attributes.{IsWithin, needed, optional_whole}
+use Rattle.attributes.specs.declared.limits.Limits.{Limits}
+use Rattle.attributes.proofs.Readings.{after_any, chosen, each_ok, in_turn_ok, then_ok}
+use Rattle.attributes.proofs.Within.{IsNoneOrWithin, optional_whole_within, whole_within}
+use Rattle.glif.specs.Numbers.{advance_widths, coordinate, coordinates, offset, width}
 use Rattle.glif.specs.Components.{component_of, matrix}
 use Rattle.glif.specs.Contours.{closed, contour_of, ends_on, is_passed_over, line_after_off, lined, on_by, point_elements, point_of, points_of, starts_with_move, type_of}
 use Rattle.glif.specs.Glyphs.{advance_seen, child_of, code_of, drawing_of, drawn, few, format_of, no_shapes, nothing_seen, outline_of, outline_seen, shape_of, with_component, with_contour}
 use Rattle.glif.specs.Limits.{IsContourWithin, IsOffsetWithin, IsPointWithin, IsWithinLimits}
 
--- ---- readings in general
-
--- the second step gives what has a property, where the first one does
-then_ok : {A B F : Type 0} (P : A → Type 0) (Q : B → Type 0) (r : Result A F) (f : A → Result B F) → IfOk r P → ((x : A) → P x → IfOk (f x) Q) → IfOk (r >>= f) Q
-then_ok P Q (Ok x) f p next = next x p
-then_ok P Q (Err e) f p next = tt
-
-after_any : {A B F : Type 0} (Q : B → Type 0) (r : Result A F) (f : A → Result B F) → ((x : A) → IfOk (f x) Q) → IfOk (r >>= f) Q
-after_any Q (Ok x) f next = next x
-after_any Q (Err e) f next = tt
-
-chosen : {A F : Type 0} (P : A → Type 0) (b : Bool) (r s : Result A F) → (b ≡ true → IfOk r P) → (b ≡ false → IfOk s P) → IfOk (if b then r else s) P
-chosen P true r s first second = first refl
-chosen P false r s first second = second refl
-
-each_ok : {A B F : Type 0} (P : B → Type 0) (f : A → Result B F) → ((t : A) → IfOk (f t) P) → (ts : List A) → IfOk (each f ts) (All P)
-each_ok P f one [] = All-nil P
-each_ok P f one (t ∷ ts) =
-    then_ok P (All P) (f t) _ (one t) (λ x p. then_ok (All P) (All P) (each f ts) _ (each_ok P f one ts) (λ xs ps. All-cons P x xs p ps))
-
-in_turn_ok : {A S F : Type 0} (P : S → Type 0) (step : S → A → Result S F) → ((s : S) (t : A) → P s → IfOk (step s t) P) → (s : S) (ts : List A) → P s → IfOk (in_turn step s ts) P
-in_turn_ok P step one s [] p = p
-in_turn_ok P step one s (t ∷ ts) p = then_ok P P (step s t) _ (one s t p) (λ next q. in_turn_ok P step one next ts q)
-
 -- ---- numbers
 
-abbrev IsRanged : ℤ → ℤ → Type 0
-IsRanged least n = (least ≤ℤ n) × (n ≤ℤ pos 16383)
-
-ranged_ok : (least : ℤ) (name : List ℕ) (tree : Tree) (n : ℤ) → IfOk (ranged least name tree n) (IsRanged least)
-unfolding ranged
-ranged_ok least name tree n =
-    chosen (IsRanged least) (int_le least n && int_le n (pos 16383)) _ _ (λ h. grind (arith, common_steps)) (λ h. tt)
-
-whole_ok : (least : ℤ) (name : List ℕ) (tree : Tree) (text : List ℕ) → IfOk (whole least name tree text) (IsRanged least)
-unfolding whole
-whole_ok least name tree text = after_any (IsRanged least) _ _ (ranged_ok least name tree)
-
-coordinate_ok : (name : List ℕ) (tree : Tree) → IfOk (coordinate name tree) (IsRanged (negsuc 16383))
+coordinate_ok : (name : List ℕ) (tree : Tree) → IfOk (coordinate name tree) (IsWithin coordinates)
 unfolding coordinate
-coordinate_ok name tree = after_any (IsRanged (negsuc 16383)) _ _ (whole_ok (negsuc 16383) name tree)
+coordinate_ok name tree = whole_within coordinates name tree
 
-or_zero_ok : (least : ℤ) (name : List ℕ) (tree : Tree) (text : Option (List ℕ)) → least ≤ℤ pos 0 → IfOk (whole_or_zero least name tree text) (IsRanged least)
-or_zero_ok least name tree None low = (low, omega (arith, ints))
-or_zero_ok least name tree (Some text) low = whole_ok least name tree text
+or_zero : (limits : Limits) (found : Option ℤ) → IsWithin limits (pos 0) → IsNoneOrWithin limits found → IsWithin limits (unwrap_or found (pos 0))
+or_zero limits None zero within = zero
+or_zero limits (Some n) zero within = within
 
-optional_ok : (least : ℤ) (name : List ℕ) (tree : Tree) → least ≤ℤ pos 0 → IfOk (optional least name tree) (IsRanged least)
-unfolding optional
-optional_ok least name tree low = or_zero_ok least name tree (attribute_of name tree) low
+offset_ok : (name : List ℕ) (tree : Tree) → IfOk (offset name tree) (IsWithin coordinates)
+unfolding offset
+offset_ok name tree =
+    then_ok (IsNoneOrWithin coordinates) (IsWithin coordinates) (optional_whole coordinates name tree) _ (optional_whole_within coordinates name tree)
+    (λ found within. or_zero coordinates found (record { least = omega (arith, ints); greatest = omega (arith, ints) }) within)
+
+width_ok : (tree : Tree) → IfOk (width tree) (IsWithin advance_widths)
+unfolding width
+width_ok tree =
+    then_ok (IsNoneOrWithin advance_widths) (IsWithin advance_widths) (optional_whole advance_widths (codes "width") tree) _ (optional_whole_within advance_widths (codes "width") tree)
+    (λ found within. or_zero advance_widths found (record { least = omega (arith, ints); greatest = omega (arith, ints) }) within)
 
 -- ---- contours
 
@@ -75,10 +50,10 @@ point_ok : (first : Bool) (tree : Tree) → IfOk (point_of first tree) IsPointWi
 unfolding point_of
 point_ok first tree =
     chosen IsPointWithin (is_named (codes "point") tree) _ _
-    (λ _. then_ok (IsRanged (negsuc 16383)) IsPointWithin (coordinate (codes "x") tree) _ (coordinate_ok (codes "x") tree)
-    (λ x across. then_ok (IsRanged (negsuc 16383)) IsPointWithin (coordinate (codes "y") tree) _ (coordinate_ok (codes "y") tree)
+    (λ _. then_ok (IsWithin coordinates) IsPointWithin (coordinate (codes "x") tree) _ (coordinate_ok (codes "x") tree)
+    (λ x across. then_ok (IsWithin coordinates) IsPointWithin (coordinate (codes "y") tree) _ (coordinate_ok (codes "y") tree)
     (λ y up. after_any IsPointWithin (on_by first tree (type_of tree)) _
-    (λ on. record { least_x = across.0; greatest_x = across.1; least_y = up.0; greatest_y = up.1 }))))
+    (λ on. record { least_x = across.least; greatest_x = across.greatest; least_y = up.least; greatest_y = up.greatest }))))
     (λ _. tt)
 
 -- at least one point, each within limits
@@ -126,9 +101,9 @@ unfolding component_of
 component_ok tree =
     after_any IsOffsetWithin (needed (codes "base") tree) _
     (λ base. after_any IsOffsetWithin (matrix tree) _
-    (λ _. then_ok (IsRanged (negsuc 16383)) IsOffsetWithin (optional (negsuc 16383) (codes "xOffset") tree) _ (optional_ok (negsuc 16383) (codes "xOffset") tree (omega (arith, ints)))
-    (λ dx across. then_ok (IsRanged (negsuc 16383)) IsOffsetWithin (optional (negsuc 16383) (codes "yOffset") tree) _ (optional_ok (negsuc 16383) (codes "yOffset") tree (omega (arith, ints)))
-    (λ dy up. record { least_x = across.0; greatest_x = across.1; least_y = up.0; greatest_y = up.1 }))))
+    (λ _. then_ok (IsWithin coordinates) IsOffsetWithin (offset (codes "xOffset") tree) _ (offset_ok (codes "xOffset") tree)
+    (λ dx across. then_ok (IsWithin coordinates) IsOffsetWithin (offset (codes "yOffset") tree) _ (offset_ok (codes "yOffset") tree)
+    (λ dy up. record { least_x = across.least; greatest_x = across.greatest; least_y = up.least; greatest_y = up.greatest }))))
 
 -- ---- outlines
 
@@ -178,14 +153,14 @@ outline_ok tree =
 -- ---- glyphs
 
 record IsSeen (seen : Seen) : Type 0 where
-  wide : MatchOption seen.width (Unit {0}) (IsRanged (pos 0))
+  wide : MatchOption seen.width (Unit {0}) (IsWithin advance_widths)
   drawn : MatchOption seen.shapes (Unit {0}) AreFew
 
 advance_ok : (tree : Tree) (seen : Seen) (width : Option ℤ) → IsSeen seen → IfOk (advance_seen tree seen width) IsSeen
 advance_ok tree seen (Some width) before = before
 advance_ok tree seen None before =
-    then_ok (IsRanged (pos 0)) IsSeen (optional (pos 0) (codes "width") tree) _ (optional_ok (pos 0) (codes "width") tree (omega (arith, ints)))
-    (λ width within. record { wide = within; drawn = before.drawn })
+    then_ok (IsWithin advance_widths) IsSeen (width tree) _ (width_ok tree)
+    (λ units within. record { wide = within; drawn = before.drawn })
 
 outline_seen_ok : (tree : Tree) (seen : Seen) (shapes : Option Shapes) → IsSeen seen → IfOk (outline_seen tree seen shapes) IsSeen
 outline_seen_ok tree seen (Some shapes) before = tt
@@ -205,20 +180,16 @@ pub record IsDrawnWithin (drawing : Drawing) : Type 0 where
   pub outline : IsWithinLimits drawing.outline
   pub offsets : All IsOffsetWithin drawing.components
 
-width_within : (width : Option ℤ) → MatchOption width (Unit {0}) (IsRanged (pos 0)) → IsRanged (pos 0) (unwrap_or width (pos 0))
-width_within None wide = (omega (arith, ints), omega (arith, ints))
-width_within (Some width) wide = wide
-
 shapes_within : (shapes : Option Shapes) → MatchOption shapes (Unit {0}) AreFew → AreFew (unwrap_or shapes no_shapes)
 shapes_within None drawn = record { shown = no_shapes_within; points = omega arith }
 shapes_within (Some shapes) drawn = drawn
 
 drawn_within : (name : List ℕ) (seen : Seen) → IsSeen seen → IsDrawnWithin (drawn name seen)
 drawn_within name seen within =
-    let width = width_within seen.width within.wide in
+    let wide = or_zero advance_widths seen.width (record { least = omega (arith, ints); greatest = omega (arith, ints) }) within.wide in
     let shapes = shapes_within seen.shapes within.drawn in
     record {
-      outline = record { least_advance = width.0; greatest_advance = width.1; contours_within = shapes.shown.contours; points = shapes.points };
+      outline = record { least_advance = wide.least; greatest_advance = wide.greatest; contours_within = shapes.shown.contours; points = shapes.points };
       offsets = shapes.shown.components;
     }
 

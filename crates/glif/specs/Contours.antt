@@ -8,7 +8,8 @@ use Rattle.basics.specs.declared.fault.Spot.{Spot}
 use Rattle.glif.specs.declared.shape.Point.{Point}
 use Rattle.glif.specs.declared.contour.PointType.{PointType}
 use Rattle.glif.specs.declared.contour.PointType.TheVariants.{Off, Line, Quadratic, Cubic, Move, Unknown}
-use Rattle.glif.specs.Attributes.{coordinate, fault}
+use Rattle.attributes.specs.Attributes.{fault}
+use Rattle.glif.specs.Numbers.{coordinate}
 
 -- ---- points
 
@@ -56,13 +57,13 @@ abbrev pub points_of : List Tree → Result (List Point) Spot
 points_of [] = Ok []
 points_of (tree ∷ trees) = point_of true tree >>= λ point. each (point_of false) trees >>= λ points. Ok (point ∷ points)
 
--- ---- what is tested of a contour behind its points
+-- ---- what is tested of a contour after its points
 
 abbrev pub starts_with_move : List Tree → Bool
 starts_with_move [] = false
 starts_with_move (tree ∷ trees) = is_move (type_of tree)
 
--- the place of the first line that comes from a point off the curve, where on says whether the point before is on it
+-- the offset of the first line that comes from a point off the curve, where on says whether the point before is on it
 abbrev pub line_after_off : Bool → List Tree → List Point → Option ℕ
 line_after_off on (tree ∷ trees) (point ∷ points) = if is_line (type_of tree) && not on then Some (at_of tree) else line_after_off point.on trees points
 line_after_off on _ _ = None

@@ -15,7 +15,8 @@ use Rattle.glif.specs.declared.shape.Drawing.{Drawing}
 use Rattle.glif.specs.declared.shape.Point.{Point}
 use Rattle.glif.specs.declared.outline.Shapes.{Shapes}
 use Rattle.glif.specs.declared.glyph.Seen.{Seen}
-use Rattle.glif.specs.Attributes.{fault, needed, optional}
+use Rattle.attributes.specs.Attributes.{fault, needed}
+use Rattle.glif.specs.Numbers.{width}
 use Rattle.glif.specs.Components.{component_of}
 use Rattle.glif.specs.Contours.{contour_of}
 use Rattle.glif.specs.FirstOutside.{point_count}
@@ -64,7 +65,7 @@ code_by tree (Some text) = if is_hexadecimal text && is_code (digits_value 16 te
 unfoldable pub code_of : Tree → Result ℕ Spot
 code_of tree = code_by tree (attribute_of (codes "hex") tree)
 
--- a code point that stands twice is kept once, at its first place
+-- a code point that stands twice is kept once, where it stands first
 abbrev pub with_code : List ℕ → ℕ → List ℕ
 with_code points code = if list_any (λ other. other == code) points then points else points ++ code ∷ []
 
@@ -77,7 +78,7 @@ nothing_seen = record { width = None; codes = []; shapes = None }
 -- the first `advance` counts, and no width in it is 0
 abbrev pub advance_seen : Tree → Seen → Option ℤ → Result Seen Spot
 advance_seen tree seen (Some width) = Ok seen
-advance_seen tree seen None = optional (pos 0) (codes "width") tree >>= λ width. Ok (record seen { width = Some width })
+advance_seen tree seen None = width tree >>= λ units. Ok (record seen { width = Some units })
 
 abbrev pub outline_seen : Tree → Seen → Option Shapes → Result Seen Spot
 outline_seen tree seen (Some shapes) = fault NotGlif tree

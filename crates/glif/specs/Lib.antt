@@ -1,9 +1,9 @@
-pub mod Attributes
 pub mod Components
 pub mod Contours
 pub mod FirstOutside
 pub mod Glyphs
 pub mod Limits
-pub mod Plain
+pub mod Numbers
+pub mod Printed
 pub mod Shapes
 pub mod Texts

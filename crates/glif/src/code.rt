@@ -6,9 +6,9 @@ ghost use Rattle.basics.specs.Reading.{Gives};
 ghost use Rattle.markup.specs.Plain.{plain};
 ghost use Rattle.glif.specs.Glyphs.{code_of, is_code, is_hexadecimal, with_code};
 
-use crate::attributes::fault;
-use markup::Element;
+use attributes::fault;
 use basics::{Kind, NoMemory, Seq, Stop};
+use markup::Element;
 use std::alloc::Global;
 use std::collections::BTreeSet;
 use std::marker::Model;
@@ -46,7 +46,7 @@ impl Codes {
         }
     }
 
-    /// The code points with one more behind them, unless it is among them.
+    /// The code points with one more after them, unless it is among them.
     pub(crate) fn with(self, code: u32) -> Result<Codes, NoMemory>
         ensures { IfOk result (λ codes. codes ≡ with_code self code) }
     {

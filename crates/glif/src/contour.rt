@@ -4,11 +4,12 @@ ghost use Rattle.markup.specs.Plain.{plain};
 ghost use Rattle.markup_rules.specs.Tree.{is_named};
 ghost use Rattle.glif.specs.Contours.{closed, contour_of, ends_on, is_line, is_move, is_passed_over, line_after_off, lined, on_by, point_of, points_of, starts_with_move, type_of};
 
-use crate::attributes::{coordinate, fault};
 use crate::limits::CONTOUR_POINTS;
+use crate::numbers::coordinate;
 use crate::shape::Point;
-use markup::Element;
+use attributes::fault;
 use basics::{Kind, Seq, Stop, stop_at};
+use markup::Element;
 use std::alloc::Global;
 
 /// What a point is to its contour, by its attribute `type` (UFO 3, "GLIF", "point").
@@ -107,17 +108,15 @@ fn read_point(alloc: Global, is_first: bool, element: &Element) -> Result<Point,
 fn read_points(alloc: Global, elements: &[Element]) -> Result<Seq<Point>, Stop>
     ensures { Gives (λ points. points) result (points_of (map plain elements.now)) }
 {
-    let mut points = Seq::new(alloc);
     let [first, later @ ..] = elements else {
-        return Ok(points);
+        return Ok(Seq::new(alloc));
     };
-    let point = read_point(alloc, true, first)?;
-    points.push(point)?;
+    let mut points = Vec::with_capacity(alloc, elements.len())?;
+    points.push(read_point(alloc, true, first)?)?;
     for element in later {
-        let point = read_point(alloc, false, element)?;
-        points.push(point)?;
+        points.push(read_point(alloc, false, element)?)?;
     }
-    Ok(points)
+    Ok(Seq::from_vec(points))
 }
 
 /// Whether the first point is of the type `move`.
@@ -130,7 +129,7 @@ fn starts_with_move(elements: &[Element]) -> bool
     }
 }
 
-/// Whether the last point is on the curve, behind which the first one follows.
+/// Whether the last point is on the curve, after which the first one follows.
 fn ends_on(points: &[Point]) -> bool
     ensures { result ≡ ends_on points.now }
 {
@@ -140,7 +139,7 @@ fn ends_on(points: &[Point]) -> bool
     }
 }
 
-/// The place of the first line that comes from a point off the curve, where `is_on` tells whether the point
+/// The offset of the first line that comes from a point off the curve, where `is_on` tells whether the point
 /// before is on it.
 fn line_after_off(is_on: bool, elements: &[Element], points: &[Point]) -> Option<u64>
     ensures { result ≡ line_after_off is_on (map plain elements.now) points.now }
@@ -148,8 +147,8 @@ fn line_after_off(is_on: bool, elements: &[Element], points: &[Point]) -> Option
     let mut is_on = is_on;
     for (index, element) in elements.iter().enumerate() {
         let point = points.get(index)?;
-        if is_line(element) && !is_on {
-            return Some(element.place());
+        if !is_on && is_line(element) {
+            return Some(element.offset());
         }
         is_on = point.on;
     }
@@ -157,10 +156,10 @@ fn line_after_off(is_on: bool, elements: &[Element], points: &[Point]) -> Option
 }
 
 /// The points, where no line begins off the curve.
-fn lined(alloc: Global, points: Seq<Point>, place: Option<u64>) -> Result<Seq<Point>, Stop>
-    ensures { Gives (λ points. points) result (lined points place) }
+fn lined(alloc: Global, points: Seq<Point>, offset: Option<u64>) -> Result<Seq<Point>, Stop>
+    ensures { Gives (λ points. points) result (lined points offset) }
 {
-    match place {
+    match offset {
         None => Ok(points),
         Some(at) => Err(stop_at(alloc, Kind::LineAfterOff, "", at, 0)),
     }
@@ -178,7 +177,7 @@ fn closed(alloc: Global, contour: &Element, points: Seq<Point>) -> Result<Seq<Po
             alloc,
             Kind::TooManyPoints,
             "",
-            contour.place(),
+            contour.offset(),
             count as i64,
         ));
     }
@@ -186,9 +185,8 @@ fn closed(alloc: Global, contour: &Element, points: Seq<Point>) -> Result<Seq<Po
         return Err(fault(alloc, Kind::OpenContour, contour));
     }
     let is_on = ends_on(points.as_slice());
-    let place = line_after_off(is_on, contour.children(), points.as_slice());
-    let points = lined(alloc, points, place)?;
-    Ok(points)
+    let offset = line_after_off(is_on, contour.children(), points.as_slice());
+    lined(alloc, points, offset)
 }
 
 /// Whether a contour of these elements is passed over: without points, or with a single one of the type `move`.
@@ -219,6 +217,5 @@ pub(crate) fn read_contour(alloc: Global, contour: &Element) -> Result<Option<Se
         return Ok(None);
     }
     let points = read_points(alloc, contour.children())?;
-    let points = closed(alloc, contour, points)?;
-    Ok(Some(points))
+    Ok(Some(closed(alloc, contour, points)?))
 }

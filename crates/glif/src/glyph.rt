@@ -6,13 +6,14 @@ ghost use Rattle.glif.specs.Glyphs.{advance_seen, child_of, drawing_of, drawn, f
 ghost use Rattle.glif.specs.Limits.{IsOffsetWithin, IsWithinLimits};
 ghost use Rattle.glif.specs.declared.shape.Drawing.{Drawing};
 
-use crate::attributes::{fault, needed, optional};
 use crate::code::{Codes, read_code};
+use crate::numbers::width;
 use crate::outline::{Shapes, read_outline};
 use crate::shape::{Drawing, Outline};
+use attributes::{fault, needed};
+use basics::{Kind, Name, Stop, stop_at};
 use fixpoint::parse_whole;
 use markup::Element;
-use basics::{Kind, Name, Stop, stop_at};
 use std::alloc::Global;
 
 /// What the elements of a `glyph` have given so far.
@@ -44,8 +45,7 @@ fn read_advance(alloc: Global, mut seen: Seen, advance: &Element) -> Result<Seen
     ensures { Gives (λ seen. seen) result (advance_seen (plain advance.now) seen seen.width) }
 {
     if seen.width.is_none() {
-        let width = optional(alloc, 0, "width", advance)?;
-        seen.width = Some(width);
+        seen.width = Some(width(alloc, advance)?);
     }
     Ok(seen)
 }
@@ -57,8 +57,7 @@ fn read_shapes(alloc: Global, mut seen: Seen, outline: &Element) -> Result<Seen,
     if seen.shapes.is_some() {
         return Err(fault(alloc, Kind::NotGlif, outline));
     }
-    let shapes = read_outline(alloc, outline)?;
-    seen.shapes = Some(shapes);
+    seen.shapes = Some(read_outline(alloc, outline)?);
     Ok(seen)
 }
 
@@ -68,18 +67,15 @@ fn read_child(alloc: Global, seen: Seen, element: &Element) -> Result<Seen, Stop
     ensures { Gives (λ seen. seen) result (child_of seen (plain element.now)) }
 {
     if element.is_named("advance") {
-        let seen = read_advance(alloc, seen, element)?;
-        Ok(seen)
+        read_advance(alloc, seen, element)
     } else if element.is_named("unicode") {
         let code = read_code(alloc, element)?;
-        let seen = Seen {
+        Ok(Seen {
             codes: seen.codes.with(code)?,
             ..seen
-        };
-        Ok(seen)
+        })
     } else if element.is_named("outline") {
-        let seen = read_shapes(alloc, seen, element)?;
-        Ok(seen)
+        read_shapes(alloc, seen, element)
     } else {
         Ok(seen)
     }
@@ -175,7 +171,7 @@ fn read_drawing(alloc: Global, tree: &Element) -> Result<Drawing, Stop>
 ///
 /// Of the root `glyph` its `name` is read; of its elements the `width` of the first `advance`, which is 0
 /// where either is absent, the `hex` of each `unicode`, and the one `outline`. A code point that stands twice is
-/// kept once, at its first place. Of the outline each `contour` and each `component` are read, in their order;
+/// kept once, where it stands first. Of the outline each `contour` and each `component` are read, in their order;
 /// an outline may be absent.
 ///
 /// Numbers are in font units. An advance width is 0 to 16,383; a coordinate, or an offset of a component, is
@@ -208,12 +204,12 @@ fn read_drawing(alloc: Global, tree: &Element) -> Result<Drawing, Stop>
 /// 4. the elements of a contour in their order: NotGlif at one that is no `point`; MissingAttribute of the item
 ///    `x`, the number `x`, and the same of `y`; then the type: Curve where it is `curve`, NotGlif where it is
 ///    `move` and the point isn't the first, or another text;
-/// 5. behind its points the contour: TooManyPoints where there are more than 1,024, with their number as `first`;
-///    OpenContour where the first point is a `move`; LineAfterOff at the first `line` that stands behind a point
+/// 5. after its points the contour: TooManyPoints where there are more than 1,024, with their number as `first`;
+///    OpenContour where the first point is a `move`; LineAfterOff at the first `line` that comes after a point
 ///    off the curve, where the last point stands before the first;
 /// 6. a component: MissingAttribute of the item `base`; `xScale`, `yScale`, `xyScale` and `yxScale`, each the number
 ///    and then ScaledComponent where it has another value; the numbers `xOffset` and `yOffset`;
-/// 7. behind its elements the outline: TooManyPoints where its contours have more than 4,000 in all, with their
+/// 7. after its elements the outline: TooManyPoints where its contours have more than 4,000 in all, with their
 ///    number as `first`.
 pub fn read(alloc: Global, tree: &Element) -> Result<Drawing, Stop>
     // Which drawing it is, and which fault.
@@ -222,6 +218,5 @@ pub fn read(alloc: Global, tree: &Element) -> Result<Drawing, Stop>
     ensures limits { IfOk result (λ drawing. IsWithinLimits drawing.outline) }
     ensures offsets { IfOk result (λ (drawing : Drawing). All IsOffsetWithin drawing.components) }
 {
-    let drawing = read_drawing(alloc, tree)?;
-    Ok(drawing)
+    read_drawing(alloc, tree)
 }

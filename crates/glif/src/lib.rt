@@ -1,13 +1,13 @@
 //! Drawings of glyphs, and their reading from GLIF, the glyph format of UFO 3.
 #![tactic(auto)]
 
-mod attributes;
 mod code;
 mod component;
 mod contour;
 mod glyph;
 mod laws;
 mod limits;
+mod numbers;
 mod outline;
 mod plain;
 mod shape;
@@ -15,7 +15,7 @@ mod shape;
 pub use glyph::read;
 pub use laws::limits_law;
 pub use limits::{coordinate_outside, within};
-pub use plain::plain_law;
+pub use plain::printing_law;
 pub use shape::{Component, Drawing, Outline, Point};
 
 #[cfg(test)]

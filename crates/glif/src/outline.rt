@@ -3,13 +3,13 @@ ghost use Rattle.basics.specs.Reading.{Gives};
 ghost use Rattle.markup.specs.Plain.{plain};
 ghost use Rattle.glif.specs.Glyphs.{few, no_shapes, outline_of, shape_of};
 
-use crate::attributes::fault;
 use crate::component::read_component;
 use crate::contour::read_contour;
 use crate::limits::{GLYPH_POINTS, point_count};
 use crate::shape::{Component, Point};
-use markup::Element;
+use attributes::fault;
 use basics::{Kind, Seq, Stop, stop_at};
+use markup::Element;
 use std::alloc::Global;
 
 /// What the elements of an `outline` draw, in their order.
@@ -37,14 +37,12 @@ fn read_shape(alloc: Global, mut shapes: Shapes, element: &Element) -> Result<Sh
     ensures { Gives (λ shapes. shapes) result (shape_of shapes (plain element.now)) }
 {
     if element.is_named("contour") {
-        let contour = read_contour(alloc, element)?;
-        if let Some(points) = contour {
+        if let Some(points) = read_contour(alloc, element)? {
             shapes.contours.push(points)?;
         }
         Ok(shapes)
     } else if element.is_named("component") {
-        let component = read_component(alloc, element)?;
-        shapes.components.push(component)?;
+        shapes.components.push(read_component(alloc, element)?)?;
         Ok(shapes)
     } else {
         Err(fault(alloc, Kind::NotGlif, element))
@@ -57,7 +55,7 @@ fn few(alloc: Global, outline: &Element, shapes: Shapes) -> Result<Shapes, Stop>
 {
     let count = point_count(shapes.contours.as_slice());
     if (GLYPH_POINTS as i64) < count {
-        return Err(stop_at(alloc, Kind::TooManyPoints, "", outline.place(), count));
+        return Err(stop_at(alloc, Kind::TooManyPoints, "", outline.offset(), count));
     }
     Ok(shapes)
 }
@@ -71,6 +69,5 @@ pub(crate) fn read_outline(alloc: Global, outline: &Element) -> Result<Shapes, S
     for element in outline.children() {
         shapes = read_shape(alloc, shapes, element)?;
     }
-    let shapes = few(alloc, outline, shapes)?;
-    Ok(shapes)
+    few(alloc, outline, shapes)
 }

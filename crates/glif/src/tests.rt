@@ -445,7 +445,7 @@ const LONG: [(&str, &str, u32, u32, &str, &str); 12] = [
 
 /// The name, the width and two points of plain drawings, whose contours are one of both points and one of the
 /// second alone.
-const PLAIN: [(&str, &str, [&str; 4], &str); 5] = [
+const PRINTED: [(&str, &str, [&str; 4], &str); 5] = [
     (
         "a",
         "300",
@@ -501,7 +501,7 @@ const LIMITS: [(i32, u32, u32, i32, i32, Option<i64>); 17] = [
 ];
 
 /// The name and the advance width, each contour in brackets with `!` before a point off the curve, or its number
-/// of points where it has many, each component in braces, and each code point behind `#`.
+/// of points where it has many, each component in braces, and each code point after `#`.
 fn shown(alloc: Global, drawing: &Drawing) -> Result<String, AllocError> {
     let mut shown = String::from_str(alloc, drawing.name.as_str())?;
     write!(shown, " {}", drawing.outline.advance)?;
@@ -640,7 +640,7 @@ fn right_files(rt: HostRuntime) -> Result<(), Fail> {
     for (inside, wanted) in &GLYPHS {
         expect_inside(&rt, rt.alloc(), inside, wanted)?;
     }
-    for (name, width, [x, y, second_x, second_y], wanted) in &PLAIN {
+    for (name, width, [x, y, second_x, second_y], wanted) in &PRINTED {
         let second = format!(in rt.alloc();
             "<point x=\"{second_x}\" y=\"{second_y}\" type=\"line\"/>\n</contour>\n"
         )?;

@@ -17,13 +17,13 @@ use Rattle.variation_rules.specs.Scalar.{scalar_of}
 use Rattle.variation_rules.specs.declared.region.Triple.{Triple}
 use Rattle.variation_rules.specs.declared.tuple.TupleVariation.{TupleVariation}
 use Rattle.region_support.specs.Regions.{AreTriangular, FirstIsWhole, regions_of}
-use Rattle.region_support.proofs.RegionLaw.{first_is_whole, own_one_later_nothing}
-use Rattle.delta_solve.specs.Deltas.{ComeBack, deltas_behind, deltas_by, deltas_of, dot, model_value, next_delta, scalars_at, whole_rows}
+use Rattle.region_support.proofs.RegionLaw.{first_is_whole, regions_law}
+use Rattle.delta_solve.specs.Deltas.{ComeBack, deltas_after, deltas_by, deltas_of, dot, model_value, next_delta, scalars_at, whole_rows}
 use Rattle.delta_solve.specs.GlyphModels.{AreTuplesBy, IsTupleWithin, default_of, delta_advance, delta_x, delta_y}
-use Rattle.delta_solve.specs.Outlines.{advance_of, all_points, contour_lengths, place, points_of, x_at, x_of, y_at, y_of}
+use Rattle.delta_solve.specs.Outlines.{advance_of, all_points, contour_lengths, position, points_of, x_at, x_of, y_at, y_of}
 use Rattle.delta_solve.specs.declared.model.GlyphTuple.{GlyphTuple}
 use Rattle.delta_solve.proofs.GlyphLemmas.{few_points}
-use Rattle.delta_solve.proofs.MasterLaw.{masters_return}
+use Rattle.delta_solve.proofs.MasterLaw.{masters_law}
 use Rattle.explicit_points.specs.ExplicitPoints.{IsCount}
 use Rattle.glyph_variations.specs.Draws.{Draws, DrawsMasters, DrawsModel, ModelsAreDrawn}
 use Rattle.glyph_variations.specs.Variations.{AreMoving, AreVariations}
@@ -63,7 +63,7 @@ default_advance row rows outline outlines tuple tuples are =
 -- an outline has the points of its contours
 pub outline_count : (outline : Outline) → sum (contour_lengths outline) ≡ length (points_of outline)
 outline_count outline =
-    omega (arith, length-map (all_points outline) place, length-flat_map (λ (contour : List Point). contour) outline.contours, sum-map length outline.contours)
+    omega (arith, length-map (all_points outline) position, length-flat_map (λ (contour : List Point). contour) outline.contours, sum-map length outline.contours)
 
 -- ---- the model's value at a location
 
@@ -108,20 +108,20 @@ come_at regions deltas (at ∷ ats) (value ∷ values) zero back inside also = b
 come_at regions deltas (at ∷ ats) (value ∷ values) (suc master) back inside also = come_at regions deltas ats values master back.1 (omega arith) (omega arith)
 
 -- there are no more deltas than rows
-behind_at_most : (earlier : List ℤ) (rows : List (List ℤ)) (values : List ℤ) → length (deltas_behind earlier rows values) ≤ length rows
-behind_at_most earlier [] values = omega arith
-behind_at_most earlier (row ∷ rows) [] = omega arith
-behind_at_most earlier (row ∷ rows) (value ∷ values) =
-    let rest = behind_at_most (earlier ++ (next_delta row value earlier ∷ [])) rows values in omega arith
+after_at_most : (earlier : List ℤ) (rows : List (List ℤ)) (values : List ℤ) → length (deltas_after earlier rows values) ≤ length rows
+after_at_most earlier [] values = omega arith
+after_at_most earlier (row ∷ rows) [] = omega arith
+after_at_most earlier (row ∷ rows) (value ∷ values) =
+    let rest = after_at_most (earlier ++ (next_delta row value earlier ∷ [])) rows values in omega arith
 
 -- and so a location for each outline
 location_each : (regions : List (List Triple)) (locations : List (List ℤ)) (outlines : List Outline) (tuples : List GlyphTuple) → AreTuplesBy (whole_rows regions locations) outlines tuples → length outlines ≤ length locations
 location_each regions locations outlines tuples are =
-    omega (arith, are.one_each, ap length are.advances, length-map tuples delta_advance, behind_at_most [] (whole_rows regions locations) (map advance_of outlines), length-map locations (scalars_at regions))
+    omega (arith, are.one_each, ap length are.advances, length-map tuples delta_advance, after_at_most [] (whole_rows regions locations) (map advance_of outlines), length-map locations (scalars_at regions))
 
 masters_drawn : (regions : List (List Triple)) (locations : List (List ℤ)) (outlines : List Outline) (tuples : List TupleVariation) (fills : List (List Pair)) → AreTriangular regions locations → length outlines ≤ length locations → DrawsModel regions locations outlines tuples fills → DrawsMasters locations outlines tuples fills
 masters_drawn regions locations outlines tuples fills ends enough model =
-    let back : (values : List ℤ) → ComeBack regions (deltas_of regions locations values) locations values = λ values. masters_return regions locations values ends in record {
+    let back : (values : List ℤ) → ComeBack regions (deltas_of regions locations values) locations values = λ values. masters_law regions locations values ends in record {
       xs = λ master point among below.
           ap (λ z. round_up z 65536) (model.xs (get_or locations master []) point below)
           ∙ (come_at regions (deltas_of regions locations (map (x_of point) outlines)) locations (map (x_of point) outlines) master (back (map (x_of point) outlines)) (omega arith) (omega (arith, length-map outlines (x_of point)))
@@ -138,9 +138,9 @@ masters_drawn regions locations outlines tuples fills ends enough model =
 
 -- ---- both
 
-none_behind : (rows : List (List ℤ)) → deltas_by rows [] ≡ []
-none_behind [] = refl
-none_behind (row ∷ rows) = refl
+none_after : (rows : List (List ℤ)) → deltas_by rows [] ≡ []
+none_after [] = refl
+none_after (row ∷ rows) = refl
 
 -- without an outline nothing is drawn
 no_variations : (lengths : List ℕ) (regions : List (List Triple)) (found : List TupleVariation) → AreVariations lengths regions [] found → found ≡ []
@@ -154,7 +154,7 @@ nothing_drawn regions locations = record {
   model = record {
     xs = λ at point below. absurd (omega arith);
     ys = λ at point below. absurd (omega arith);
-    advances = λ at. sym (ap (λ deltas. dot (scalars_at regions at) deltas) (none_behind (whole_rows regions locations)) ∙ none_given (scalars_at regions at));
+    advances = λ at. sym (ap (λ deltas. dot (scalars_at regions at) deltas) (none_after (whole_rows regions locations)) ∙ none_given (scalars_at regions at));
   };
   masters = record {
     xs = λ master point among below. absurd (omega arith);
@@ -169,7 +169,7 @@ glyphs_of : (rows : List (List ℤ)) (lengths : List ℕ) (outline : Outline) (o
 glyphs_of rows lengths outline outlines tuple tuples lengths_are same limits within are =
     let contours : All IsCount lengths = subst (All IsCount) (sym lengths_are) (counts_within outline limits) in
     let whole : sum lengths ≡ length tuple.deltas = ap sum lengths_are ∙ (outline_count outline ∙ ap length (sym same)) in
-    let few : length tuple.deltas ≤ 4000 = omega (arith, ap length same, length-map (all_points outline) place, few_points outline limits) in
+    let few : length tuple.deltas ≤ 4000 = omega (arith, ap length same, length-map (all_points outline) position, few_points outline limits) in
     let own : IsTupleWithin tuple = All-head IsTupleWithin tuple tuples within in
     let others : All IsTupleWithin tuples = All-tail IsTupleWithin tuple tuples within in
     let one_each : All (λ (tuple : GlyphTuple). length tuple.deltas ≡ length (points_of outline)) tuples = All-tail (λ (tuple : GlyphTuple). length tuple.deltas ≡ length (points_of outline)) tuple tuples are.points in
@@ -197,6 +197,6 @@ draws (region ∷ regions) (at ∷ ats) (outline ∷ outlines) lengths (tuple �
       masters = masters_drawn all (at ∷ ats) (outline ∷ outlines) found own_fills ends (location_each all (at ∷ ats) (outline ∷ outlines) (tuple ∷ tuples) are) drawn;
     }
 
-pub models_are_drawn : ModelsAreDrawn
-models_are_drawn axes locations outlines model found masters limits within made variations =
-    draws (regions_of locations) locations outlines model.lengths model.tuples found (first_is_whole axes locations masters) (own_one_later_nothing axes locations masters) made.lengths limits within made.tuples variations
+pub drawing_law : ModelsAreDrawn
+drawing_law axes locations outlines model found masters limits within made variations =
+    draws (regions_of locations) locations outlines model.lengths model.tuples found (first_is_whole axes locations masters) (regions_law axes locations masters) made.lengths limits within made.tuples variations

@@ -1,4 +1,4 @@
--- The loop over the masters behind the default.
+-- The loop over the masters after the default.
 use Rattle.std.proofs.Common.{◌≡◌, ℕ, ◌+◌, ◌<◌, ◌≤◌, min, Bool, true, false, zero, suc, List, [], ◌∷◌, ◌++◌, length, drop, get_or, All, refl, sym, ◌∙◌, ap, subst, arith}
 use Rattle.std.proofs.lemmas.Int.{ints}
 use Rattle.std.proofs.lemmas.List.{append-nil, append_assoc, drop_more, get_or-map, length-drop, length-map}
@@ -9,7 +9,7 @@ use Rattle.arrayvec.specs.ArrayVec.{ArrayVec, array_vec_len}
 use Rattle.fixpoint.specs.declared.plane.Pair.{Pair}
 use Rattle.gvar_table.specs.Tuples.{ArePointDeltas, IsDelta, IsRegionAxis, IsTupleOf, variation_of}
 use Rattle.gvar_table.specs.declared.tuple.Tuple.{Tuple}
-use Rattle.region_support.specs.Places.{regions_in}
+use Rattle.region_support.specs.Coordinates.{regions_in}
 use Rattle.region_support.specs.Regions.{IsNoneIfIgnored, IsNormalisedTriple}
 use Rattle.variation_rules.specs.FontUnits.{AreFWords}
 use Rattle.variation_rules.specs.InferredDelta.{still}
@@ -61,7 +61,7 @@ one_found lengths supports masters k support master own found inside also suppor
     let here = moving_next lengths points supports masters k support master (own ∷ more) inside also support_is master_is (subst (λ (b : Bool). MatchBool b (Later (own ∷ more)) Own) (sym moves) (own, more, own_is, refl, later)) in
     subst (AreVariations lengths (regions_in supports) masters) (sym (append_assoc found (own ∷ []) more)) (so_far (own ∷ more) here)
 
--- with the default behind, none is found
+-- with the default after, none is found
 no_masters : (lengths : List ℕ) (points : List Pair) (regions : List (List Triple)) (found : List TupleVariation) → AreMoving lengths points regions [] found → found ≡ []
 no_masters lengths points [] found moving = moving
 no_masters lengths points (region ∷ regions) found moving = moving

@@ -6,7 +6,7 @@ use Rattle.glif.specs.Limits.{IsWithinLimits}
 use Rattle.glif.specs.declared.shape.Outline.{Outline}
 use Rattle.explicit_points.specs.ExplicitPoints.{IsCount}
 use Rattle.delta_solve.specs.GlyphModels.{AreTuplesBy, IsModelBy, IsTupleWithin, default_of}
-use Rattle.delta_solve.specs.Outlines.{all_points, contour_lengths, place, points_of}
+use Rattle.delta_solve.specs.Outlines.{all_points, contour_lengths, position, points_of}
 use Rattle.delta_solve.specs.declared.model.GlyphModel.{GlyphModel}
 use Rattle.delta_solve.specs.declared.model.GlyphTuple.{GlyphTuple}
 use Rattle.delta_solve.proofs.GlyphLemmas.{few_points}
@@ -22,7 +22,7 @@ points_of_default rows outlines (tuple ∷ tuples) are = are.points 0 tuple (ome
 
 default_few : (outlines : List Outline) → All IsWithinLimits outlines → length (points_of (default_of outlines)) ≤ 4000
 default_few [] within = omega arith
-default_few (outline ∷ outlines) within = omega (arith, length-map (all_points outline) place, few_points outline (within 0 outline (omega arith)))
+default_few (outline ∷ outlines) within = omega (arith, length-map (all_points outline) position, few_points outline (within 0 outline (omega arith)))
 
 pub are_glyph_tuples : (rows : List (List ℤ)) (outlines : List Outline) (tuples : List GlyphTuple) → AreTuplesBy rows outlines tuples → All IsTupleWithin tuples → All IsWithinLimits outlines → length outlines ≤ 128 → AreGlyphTuples tuples
 are_glyph_tuples rows outlines tuples are within limits few =

@@ -1,4 +1,4 @@
--- What the tuple variations of the masters behind the default add to each point.
+-- What the tuple variations of the masters after the default add to each point.
 use Rattle.std.proofs.Common.{◌≡◌, ◌≢◌, ◌⊎◌, ℕ, ℤ, zero, suc, pos, ◌+◌, ◌+ℤ◌, ◌*ℤ◌, Bool, true, false, ◌&&◌, List, [], ◌∷◌, ◌++◌, length, map, take, get_or, All, Some, if◌then◌else◌, refl, sym, ◌∙◌, ap, subst, inl, inr, ⊎_elim, arith}
 use Rattle.std.proofs.Math.Seq.{take-append_seam}
 use Rattle.std.proofs.lemmas.Bool.{eq-eqb, ne_eqb, cases_eq}
@@ -203,7 +203,7 @@ moving_once lengths points (region ∷ regions) (tuple ∷ tuples) found other o
     either_once (is_still_tuple tuple) lengths points region (all_deltas tuple) found other (AreMoving lengths points regions tuples)
     (λ more others first second. moving_once lengths points regions tuples more others first second) one two
 
-pub variations_once : VariationsOnce
-variations_once lengths [] tuples found other one two = one ∙ sym two
-variations_once lengths (region ∷ regions) [] found other one two = one ∙ sym two
-variations_once lengths (region ∷ regions) (default ∷ tuples) found other one two = moving_once lengths default.deltas regions tuples found other one two
+pub variations_law : VariationsOnce
+variations_law lengths [] tuples found other one two = one ∙ sym two
+variations_law lengths (region ∷ regions) [] found other one two = one ∙ sym two
+variations_law lengths (region ∷ regions) (default ∷ tuples) found other one two = moving_once lengths default.deltas regions tuples found other one two

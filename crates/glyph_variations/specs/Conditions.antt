@@ -4,7 +4,7 @@ use Rattle.arrayvec.specs.ArrayVec.{ArrayVec, array_vec_len}
 use Rattle.fixpoint.specs.declared.plane.Pair.{Pair}
 use Rattle.variation_rules.specs.declared.region.Triple.{Triple}
 use Rattle.explicit_points.specs.ExplicitPoints.{IsCount}
-use Rattle.region_support.specs.Places.{regions_in}
+use Rattle.region_support.specs.Coordinates.{regions_in}
 use Rattle.region_support.specs.Regions.{AreNoneIfIgnored, AreNormalisedRegions}
 use Rattle.delta_solve.specs.GlyphModels.{IsTupleWithin}
 use Rattle.delta_solve.specs.declared.model.GlyphTuple.{GlyphTuple}

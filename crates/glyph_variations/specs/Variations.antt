@@ -1,4 +1,4 @@
--- The tuple variations of a glyph (OpenType, "gvar"): for each master behind the default its region and its deltas.
+-- The tuple variations of a glyph (OpenType, "gvar"): for each master after the default its region and its deltas.
 use Rattle.std.specs.Prelude.{◌≡◌, ℕ, ℤ, pos, ◌+◌, ◌*◌, Bool, List, [], ◌∷◌, ◌++◌, length, map, nat_lt, slice_index_or}
 use Rattle.std.specs.Bool.{MatchBool}
 use Rattle.std.specs.List.{count_by, list_all}
@@ -13,7 +13,7 @@ use Rattle.explicit_points.specs.ExplicitPoints.{AreExplicit, is_still}
 abbrev pub phantom_deltas : ℤ → List Pair
 phantom_deltas advance = still ∷ record { x = advance; y = pos 0 } ∷ still ∷ still ∷ []
 
--- the deltas of all points of a glyph, the phantom points behind the outline's
+-- the deltas of all points of a glyph, the phantom points after the outline's
 abbrev pub all_deltas : GlyphTuple → List Pair
 all_deltas tuple = tuple.deltas ++ phantom_deltas tuple.advance
 

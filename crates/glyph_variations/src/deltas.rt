@@ -3,15 +3,15 @@ ghost use Rattle.std.specs.List.{list_all};
 ghost use Rattle.explicit_points.specs.ExplicitPoints.{is_still};
 ghost use Rattle.glyph_variations.specs.Variations.{all_deltas, explicit_in, picked};
 
+use basics::{NoMemory, Seq};
 use delta_solve::GlyphTuple;
 use fixpoint::Pair;
-use basics::{NoMemory, Seq};
 use std::alloc::Global;
 
 /// No movement.
 const STILL: Pair = Pair { x: 0, y: 0 };
 
-/// The deltas of all points of a glyph, the four phantom points behind the outline's; the second of these stands at
+/// The deltas of all points of a glyph, the four phantom points after the outline's; the second of these stands at
 /// the advance (OpenType, "glyf").
 pub(crate) fn all_deltas(alloc: Global, tuple: &GlyphTuple) -> Result<Vec<Pair>, NoMemory>
     ensures { IfOk result (λ deltas. deltas.items ≡ all_deltas tuple.now) }

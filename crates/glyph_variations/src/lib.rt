@@ -7,5 +7,5 @@ mod laws;
 mod tests;
 mod tuples;
 
-pub use laws::{models_are_drawn, variations_once};
+pub use laws::{drawing_law, variations_law};
 pub use tuples::{GlyphVariations, variations};

@@ -6,12 +6,13 @@ ghost use Rattle.glyph_variations.specs.Conditions.{AreGlyphTuples, point_count}
 
 use crate::tuples::{GlyphVariations, variations};
 use arrayvec::ArrayVec;
+use basics::{NoMemory, Seq};
 use delta_solve::{GlyphModel, GlyphTuple};
 use fixpoint::{Fix, Pair};
 use gvar_table::Tuple;
-use basics::{NoMemory, Seq};
 use region_support::Support;
 use std::alloc::Global;
+use std::process::Abort;
 use variation_rules::Triple;
 
 // The region of one axis.
@@ -89,12 +90,15 @@ fn found(
     variations(alloc, &model, &Seq::from_vec(supports))
 }
 
-// Whether a tuple has this region, names these points, and moves them so.
-fn is(tuple: &Tuple, region: (i32, i32, i32), points: &[u16], deltas: &[Pair]) -> bool {
+// A tuple has this region, names these points, and moves them so.
+fn check(rt: &impl Abort, tuple: &Tuple, region: (i32, i32, i32), points: &[u16], deltas: &[Pair]) {
     let (start, peak, end) = region;
-    tuple.support.as_slice() == support(start, peak, end).as_slice()
-        && tuple.points.as_slice() == points
-        && tuple.deltas.as_slice() == deltas
+    assert_eq!(rt;
+        tuple.support.as_slice(),
+        support(start, peak, end).as_slice()
+    );
+    assert_eq!(rt; tuple.points.as_slice(), points);
+    assert_eq!(rt; tuple.deltas.as_slice(), deltas);
 }
 
 // A square. The second master moves its right side and the advance, the third nothing, the fourth the advance alone,
@@ -124,9 +128,9 @@ fn square(rt: HostRuntime) {
     let tuples = found.tuples.as_slice();
     assert_eq!(rt; tuples.len(), 3);
     let wider = [pair(still), pair((50, 0)), pair((50, 0))];
-    assert!(rt; is(&tuples[0], (0, 4096, 16384), &[0, 1, 5], &wider));
+    check(&rt, &tuples[0], (0, 4096, 16384), &[0, 1, 5], &wider);
     let narrower = [pair((-1, 0))];
-    assert!(rt; is(&tuples[1], (-16384, -16384, 0), &[5], &narrower));
+    check(&rt, &tuples[1], (-16384, -16384, 0), &[5], &narrower);
     let moved = [pair((7, -3))];
-    assert!(rt; is(&tuples[2], (-8192, -4096, 0), &[0], &moved));
+    check(&rt, &tuples[2], (-8192, -4096, 0), &[0], &moved);
 }

@@ -1,23 +1,23 @@
 ghost use Rattle.std.specs.Prelude.{◌≡◌, ℕ, ◌+◌, IfOk, map};
 ghost use Rattle.gvar_table.specs.Tuples.{AreTuplesOf, variation_of};
-ghost use Rattle.region_support.specs.Places.{regions_in};
+ghost use Rattle.region_support.specs.Coordinates.{regions_in};
 ghost use Rattle.explicit_points.specs.ExplicitPoints.{IsGlyph};
 ghost use Rattle.glyph_variations.specs.Conditions.{AreWritable, IsVariable, default_points, point_count};
 ghost use Rattle.glyph_variations.specs.Variations.{AreVariations, IsVariation, explicit_points, outline_points};
 
 use crate::deltas::{all_deltas, are_still, explicit_in, picked};
+use basics::{NoMemory, Seq};
 use delta_solve::{GlyphModel, GlyphTuple};
 use explicit_points::explicit_points;
 use fixpoint::Pair;
 use gvar_table::Tuple;
-use basics::{NoMemory, Seq};
 use region_support::Support;
 use std::alloc::Global;
 
 /// The tuple variations of a glyph, and what they hold.
 #[derive(Drop)]
 pub struct GlyphVariations {
-    /// The tuples, one for each master behind the default that moves something, in the order of masters.
+    /// The tuples, one for each master after the default that moves something, in the order of masters.
     pub tuples: Seq<Tuple>,
     /// How many outline points the tuples name, added up over them.
     pub explicit: u64,
@@ -89,7 +89,7 @@ fn moving(
 }
 
 /// The tuple variations that draw the model of a glyph (OpenType, "gvar"), where the regions are those of its masters in
-/// their order: a tuple for each master behind the default whose deltas aren't all zero. It names on each contour the
+/// their order: a tuple for each master after the default whose deltas aren't all zero. It names on each contour the
 /// least set of points from which readers infer all deltas, and the phantom points that move. The model has at most 128
 /// masters, contours of 1 to 1,024 points, and at most 4,000 points in all.
 pub fn variations(

@@ -1,4 +1,4 @@
--- The data of a glyph: a tuple behind others, and that what is written means the tuples.
+-- The data of a glyph: a tuple after others, and that what is written means the tuples.
 use Rattle.std.proofs.Common.{◌≡◌, ℕ, ℤ, ◌+◌, ◌*◌, ◌^◌, ◌<◌, ◌≤◌, ◌⊎◌, List, [], ◌∷◌, ◌++◌, length, map, drop, get_or, All, None, true, refl, sym, ap, subst, ◌∙◌, inl, inr, arith, length-append, append_assoc, zero-add}
 use Rattle.std.proofs.lemmas.List.{append-nil, length-map, drop_all, drop_more}
 use Rattle.std.proofs.lemmas.List.Elements.{All-head, All-tail, All-map}
@@ -20,34 +20,34 @@ tuple_added : (count : ℕ) (tuple : TupleVariation) (tuples all : List TupleVar
 tuple_added count tuple tuples all headers new_headers parts new_parts adds completes more_headers more_parts written =
     let header : List ℕ = header_bytes (length adds.part) (header_of tuple.region) in
     let whole = completes (header ++ more_headers) (adds.part ++ more_parts) (adds.part, more_headers, more_parts, adds.is_written, refl, refl, written) in
-    let front : headers ++ (header ++ more_headers) ≡ new_headers ++ more_headers = sym (ap (λ h. h ++ more_headers) adds.header_behind ∙ append_assoc headers header more_headers) in
-    let back : parts ++ (adds.part ++ more_parts) ≡ new_parts ++ more_parts = sym (ap (λ p. p ++ more_parts) adds.part_behind ∙ append_assoc parts adds.part more_parts) in
+    let prefix : headers ++ (header ++ more_headers) ≡ new_headers ++ more_headers = sym (ap (λ h. h ++ more_headers) adds.header_after ∙ append_assoc headers header more_headers) in
+    let back : parts ++ (adds.part ++ more_parts) ≡ new_parts ++ more_parts = sym (ap (λ p. p ++ more_parts) adds.part_after ∙ append_assoc parts adds.part more_parts) in
     subst (λ (p : List ℕ). AreWritten count (new_headers ++ more_headers) p all) back
-    (subst (λ (h : List ℕ). AreWritten count h (parts ++ (adds.part ++ more_parts)) all) front whole)
+    (subst (λ (h : List ℕ). AreWritten count h (parts ++ (adds.part ++ more_parts)) all) prefix whole)
 
--- the same for the tuple at a place of the list
+-- the same for the tuple at an index of the list
 pub next_tuple : (count i : ℕ) (tuple : Tuple) (tuples : List Tuple) (headers new_headers parts new_parts : List ℕ) → i < length tuples → tuple ≡ get_or tuples i tuple → AddsTuple count (variation_of tuple) headers new_headers parts new_parts
     → ((more_headers more_parts : List ℕ) → AreWritten count more_headers more_parts (map variation_of (drop i tuples)) → AreWritten count (headers ++ more_headers) (parts ++ more_parts) (map variation_of tuples))
     → (more_headers more_parts : List ℕ) → AreWritten count more_headers more_parts (map variation_of (drop (i + 1) tuples)) → AreWritten count (new_headers ++ more_headers) (new_parts ++ more_parts) (map variation_of tuples)
 next_tuple count i tuple tuples headers new_headers parts new_parts inside is adds completes =
-    let front : drop i tuples ≡ tuple ∷ drop (i + 1) tuples = drop_more tuples i tuple inside ∙ ap (λ t. t ∷ drop (i + 1) tuples) (sym is) in
+    let prefix : drop i tuples ≡ tuple ∷ drop (i + 1) tuples = drop_more tuples i tuple inside ∙ ap (λ t. t ∷ drop (i + 1) tuples) (sym is) in
     let at : (more_headers more_parts : List ℕ) → AreWritten count more_headers more_parts (variation_of tuple ∷ map variation_of (drop (i + 1) tuples)) → AreWritten count (headers ++ more_headers) (parts ++ more_parts) (map variation_of tuples) =
-    λ more_headers more_parts written. completes more_headers more_parts (subst (λ (rest : List Tuple). AreWritten count more_headers more_parts (map variation_of rest)) (sym front) written) in
+    λ more_headers more_parts written. completes more_headers more_parts (subst (λ (rest : List Tuple). AreWritten count more_headers more_parts (map variation_of rest)) (sym prefix) written) in
     tuple_added count (variation_of tuple) (map variation_of (drop (i + 1) tuples)) (map variation_of tuples) headers new_headers parts new_parts adds at
 
 -- a header more takes at most 52 bytes
 pub next_header : (axes count i : ℕ) (tuple : Tuple) (headers new_headers parts new_parts : List ℕ) → axes ≤ 8 → IsTupleOf axes count tuple → AddsTuple count (variation_of tuple) headers new_headers parts new_parts → length headers ≤ 52 * i → length new_headers ≤ 52 * (i + 1)
 next_header axes count i tuple headers new_headers parts new_parts few is adds short =
-    omega (arith, ap length adds.header_behind, length-append headers (header_bytes (length adds.part) (header_of tuple.support.items)), header_length (length adds.part) tuple.support.items, is.axis_each)
+    omega (arith, ap length adds.header_after, length-append headers (header_bytes (length adds.part) (header_of tuple.support.items)), header_length (length adds.part) tuple.support.items, is.axis_each)
 
--- the two words, the headers and the packed parts, one behind another
-pub data_spelled : (n place : ℕ) (none front words listed bytes headers more_headers parts more_parts : List ℕ) → none ≡ [] → front ≡ none ++ word n → words ≡ front ++ word place → more_headers ≡ headers → listed ≡ words ++ more_headers → more_parts ≡ parts → bytes ≡ listed ++ more_parts → bytes ≡ word n ++ (word place ++ (headers ++ parts))
-data_spelled n place none front words listed bytes headers more_headers parts more_parts is_none front_is words_are same_headers listed_are same_parts bytes_are =
+-- the two words, the headers and the packed parts, one after another
+pub data_spelled : (n offset : ℕ) (none prefix words listed bytes headers more_headers parts more_parts : List ℕ) → none ≡ [] → prefix ≡ none ++ word n → words ≡ prefix ++ word offset → more_headers ≡ headers → listed ≡ words ++ more_headers → more_parts ≡ parts → bytes ≡ listed ++ more_parts → bytes ≡ word n ++ (word offset ++ (headers ++ parts))
+data_spelled n offset none prefix words listed bytes headers more_headers parts more_parts is_none prefix_is words_are same_headers listed_are same_parts bytes_are =
     bytes_are
     ∙ ap (λ p. listed ++ p) same_parts
-    ∙ ap (λ l. l ++ parts) (listed_are ∙ ap (λ h. words ++ h) same_headers ∙ ap (λ w. w ++ headers) (words_are ∙ ap (λ f. f ++ word place) (front_is ∙ ap (λ e. e ++ word n) is_none)))
+    ∙ ap (λ l. l ++ parts) (listed_are ∙ ap (λ h. words ++ h) same_headers ∙ ap (λ w. w ++ headers) (words_are ∙ ap (λ f. f ++ word offset) (prefix_is ∙ ap (λ e. e ++ word n) is_none)))
 
--- where no tuple is left, the headers and the packed parts stand behind the two words
+-- where no tuple is left, the headers and the packed parts stand after the two words
 pub all_written : (count i : ℕ) (tuples : List Tuple) (headers parts bytes : List ℕ) → 0 < length tuples → length tuples ≤ i → 4 + length headers < 2 ^ 16
     → ((more_headers more_parts : List ℕ) → AreWritten count more_headers more_parts (map variation_of (drop i tuples)) → AreWritten count (headers ++ more_headers) (parts ++ more_parts) (map variation_of tuples))
     → bytes ≡ word (length tuples) ++ (word (4 + length headers) ++ (headers ++ parts)) → IsWritten count bytes (map variation_of tuples)

@@ -48,7 +48,7 @@ xs_fit deltas are = All-map (FitsSigned w16) (λ (delta : Pair). delta.x) deltas
 pub ys_fit : (deltas : List Pair) → All IsDelta deltas → All (FitsSigned w16) (map (λ (delta : Pair). delta.y) deltas)
 ys_fit deltas are = All-map (FitsSigned w16) (λ (delta : Pair). delta.y) deltas (λ k d h. (are k d h).y)
 
--- the three packed lists one behind another are the part of the tuple
+-- the three packed lists one after another are the part of the tuple
 pub written_part : (count : ℕ) (tuple : TupleVariation) (points point_bytes x_bytes y_bytes more part : List ℕ) (deltas : List Pair)
     → count ≤ 4004 → ArePointDeltas count tuple.points tuple.deltas
     → points ≡ tuple.points → deltas ≡ tuple.deltas

@@ -1,11 +1,11 @@
--- The table: a glyph behind others, and that the bytes are determined.
+-- The table: a glyph after others, and that the bytes are determined.
 use Rattle.std.proofs.Common.{◌≡◌, ℕ, zero, suc, ◌+◌, ◌*◌, ◌^◌, ◌<◌, ◌≤◌, List, [], ◌∷◌, ◌++◌, length, map, drop, get_or, refl, sym, ap, subst, ◌∙◌, arith, length-append, append_assoc}
 use Rattle.std.proofs.lemmas.List.{append-nil, drop_all, drop_more}
 use Rattle.std.specs.List.{flat_map, AllZip}
 use Rattle.variation_rules.specs.Fields.{word}
 use Rattle.gvar_table.specs.declared.tuple.Tuple.{Tuple}
 use Rattle.gvar_table.specs.Layout.{IsWritten}
-use Rattle.gvar_table.specs.Table.{AddsGlyph, AreAllWritten, AreGlyphsOf, IsWrittenTable, data_place, ends_from, joined, long, offset_bytes, points_in_tuples, table_header}
+use Rattle.gvar_table.specs.Table.{AddsGlyph, AreAllWritten, AreGlyphsOf, IsWrittenTable, data_offset, ends_from, joined, long, offset_bytes, points_in_tuples, table_header}
 use Rattle.gvar_table.specs.Tuples.{AreTuplesOf, variation_of}
 use Rattle.gvar_table.proofs.OneWriting.{one_writing}
 
@@ -16,43 +16,34 @@ pub record StandFor (counts : List ℕ) (glyphs : List (List Tuple)) (offsets bo
   pub offsets_are : offsets ≡ offset_bytes blocks
   pub body_is : body ≡ joined blocks
 
--- what stands for the glyphs behind some, whose data end at this length, completes the whole
+-- what stands for the glyphs after some, whose data end at this length, completes the whole
 abbrev pub Completes : List ℕ → List (List Tuple) → List ℕ → List ℕ → List ℕ → List (List Tuple) → Type 0
 Completes counts glyphs offsets body some_counts some_glyphs =
     (more : List (List ℕ)) → AreAllWritten some_counts some_glyphs more → StandFor counts glyphs (offsets ++ flat_map long (ends_from (length body) more)) (body ++ joined more)
-
--- at first the one offset is 0
-pub none_yet : (counts : List ℕ) (glyphs : List (List Tuple)) (offsets body : List ℕ) → offsets ≡ long 0 → body ≡ [] → Completes counts glyphs offsets body counts glyphs
-none_yet counts glyphs offsets body first none more each = record {
-  blocks = more;
-  each = each;
-  offsets_are = ap (λ o. o ++ flat_map long (ends_from (length body) more)) first ∙ ap (λ d. long 0 ++ flat_map long (ends_from (length d) more)) none;
-  body_is = ap (λ d. d ++ joined more) none;
-}
 
 -- one glyph more
 glyph_added : (counts some_counts : List ℕ) (glyphs some_glyphs : List (List Tuple)) (count : ℕ) (tuples : List Tuple) (offsets new_offsets body new_body : List ℕ) → AddsGlyph count tuples offsets new_offsets body new_body
     → Completes counts glyphs offsets body (count ∷ some_counts) (tuples ∷ some_glyphs) → Completes counts glyphs new_offsets new_body some_counts some_glyphs
 glyph_added counts some_counts glyphs some_glyphs count tuples offsets new_offsets body new_body adds completes more each =
     let whole = completes (adds.own ∷ more) (adds.is_written, each) in
-    let end : length body + length adds.own ≡ length new_body = sym (ap length adds.body_behind ∙ length-append body adds.own) in
-    let front : offsets ++ flat_map long (ends_from (length body) (adds.own ∷ more)) ≡ new_offsets ++ flat_map long (ends_from (length new_body) more) =
+    let end : length body + length adds.own ≡ length new_body = sym (ap length adds.body_after ∙ length-append body adds.own) in
+    let prefix : offsets ++ flat_map long (ends_from (length body) (adds.own ∷ more)) ≡ new_offsets ++ flat_map long (ends_from (length new_body) more) =
     sym (append_assoc offsets (long (length body + length adds.own)) (flat_map long (ends_from (length body + length adds.own) more)))
-    ∙ ap (λ o. o ++ flat_map long (ends_from (length body + length adds.own) more)) (sym adds.offset_behind)
+    ∙ ap (λ o. o ++ flat_map long (ends_from (length body + length adds.own) more)) (sym adds.offset_after)
     ∙ ap (λ n. new_offsets ++ flat_map long (ends_from n more)) end in
-    let back : body ++ joined (adds.own ∷ more) ≡ new_body ++ joined more = sym (append_assoc body adds.own (joined more)) ∙ ap (λ d. d ++ joined more) (sym adds.body_behind) in
+    let back : body ++ joined (adds.own ∷ more) ≡ new_body ++ joined more = sym (append_assoc body adds.own (joined more)) ∙ ap (λ d. d ++ joined more) (sym adds.body_after) in
     subst (λ (d : List ℕ). StandFor counts glyphs (new_offsets ++ flat_map long (ends_from (length new_body) more)) d) back
-    (subst (λ (o : List ℕ). StandFor counts glyphs o (body ++ joined (adds.own ∷ more))) front whole)
+    (subst (λ (o : List ℕ). StandFor counts glyphs o (body ++ joined (adds.own ∷ more))) prefix whole)
 
--- the same at a place of the lists
+-- the same at an index of the list
 pub next_glyph : (i count : ℕ) (counts : List ℕ) (tuples : List Tuple) (glyphs : List (List Tuple)) (offsets new_offsets body new_body : List ℕ) → i < length counts → i < length glyphs → count ≡ get_or counts i 0 → tuples ≡ get_or glyphs i tuples → AddsGlyph count tuples offsets new_offsets body new_body
     → Completes counts glyphs offsets body (drop i counts) (drop i glyphs) → Completes counts glyphs new_offsets new_body (drop (i + 1) counts) (drop (i + 1) glyphs)
 next_glyph i count counts tuples glyphs offsets new_offsets body new_body inside within count_is tuples_are adds completes =
-    let counts_front : drop i counts ≡ count ∷ drop (i + 1) counts = drop_more counts i 0 inside ∙ ap (λ c. c ∷ drop (i + 1) counts) (sym count_is) in
-    let glyphs_front : drop i glyphs ≡ tuples ∷ drop (i + 1) glyphs = drop_more glyphs i tuples within ∙ ap (λ t. t ∷ drop (i + 1) glyphs) (sym tuples_are) in
+    let counts_prefix : drop i counts ≡ count ∷ drop (i + 1) counts = drop_more counts i 0 inside ∙ ap (λ c. c ∷ drop (i + 1) counts) (sym count_is) in
+    let glyphs_prefix : drop i glyphs ≡ tuples ∷ drop (i + 1) glyphs = drop_more glyphs i tuples within ∙ ap (λ t. t ∷ drop (i + 1) glyphs) (sym tuples_are) in
     let at : Completes counts glyphs offsets body (count ∷ drop (i + 1) counts) (tuples ∷ drop (i + 1) glyphs) =
-    subst (λ (t : List (List Tuple)). Completes counts glyphs offsets body (count ∷ drop (i + 1) counts) t) glyphs_front
-    (subst (λ (c : List ℕ). Completes counts glyphs offsets body c (drop i glyphs)) counts_front completes) in
+    subst (λ (t : List (List Tuple)). Completes counts glyphs offsets body (count ∷ drop (i + 1) counts) t) glyphs_prefix
+    (subst (λ (c : List ℕ). Completes counts glyphs offsets body c (drop i glyphs)) counts_prefix completes) in
     glyph_added counts (drop (i + 1) counts) glyphs (drop (i + 1) glyphs) count tuples offsets new_offsets body new_body adds at
 
 -- there is one count for each glyph
@@ -70,16 +61,16 @@ tuples_at axes (count ∷ counts) [] i d inside each = absurd each
 tuples_at axes (count ∷ counts) (tuples ∷ glyphs) zero d inside each = each.0
 tuples_at axes (count ∷ counts) (tuples ∷ glyphs) (suc i) d inside each = tuples_at axes counts glyphs i d (omega arith) each.1
 
--- how many bytes are still wanted for the glyphs from a place on
+-- how many bytes are still wanted for the glyphs from one on
 abbrev pub wanted : ℕ → List ℕ → List (List Tuple) → ℕ
 wanted i counts glyphs = 4 * length (drop i glyphs) + 23 * points_in_tuples (drop i counts) (drop i glyphs)
 
 pub wanted_here : (i count : ℕ) (counts : List ℕ) (tuples : List Tuple) (glyphs : List (List Tuple)) → i < length counts → i < length glyphs → count ≡ get_or counts i 0 → tuples ≡ get_or glyphs i tuples → wanted i counts glyphs ≡ 4 + 23 * (count * length tuples) + wanted (i + 1) counts glyphs
 wanted_here i count counts tuples glyphs inside within count_is tuples_are =
-    let counts_front : drop i counts ≡ count ∷ drop (i + 1) counts = drop_more counts i 0 inside ∙ ap (λ c. c ∷ drop (i + 1) counts) (sym count_is) in
-    let glyphs_front : drop i glyphs ≡ tuples ∷ drop (i + 1) glyphs = drop_more glyphs i tuples within ∙ ap (λ t. t ∷ drop (i + 1) glyphs) (sym tuples_are) in
-    let opened : points_in_tuples (drop i counts) (drop i glyphs) ≡ count * length tuples + points_in_tuples (drop (i + 1) counts) (drop (i + 1) glyphs) = ap (λ c. points_in_tuples c (drop i glyphs)) counts_front ∙ ap (points_in_tuples (count ∷ drop (i + 1) counts)) glyphs_front in
-    omega (arith, opened, ap length glyphs_front)
+    let counts_prefix : drop i counts ≡ count ∷ drop (i + 1) counts = drop_more counts i 0 inside ∙ ap (λ c. c ∷ drop (i + 1) counts) (sym count_is) in
+    let glyphs_prefix : drop i glyphs ≡ tuples ∷ drop (i + 1) glyphs = drop_more glyphs i tuples within ∙ ap (λ t. t ∷ drop (i + 1) glyphs) (sym tuples_are) in
+    let opened : points_in_tuples (drop i counts) (drop i glyphs) ≡ count * length tuples + points_in_tuples (drop (i + 1) counts) (drop (i + 1) glyphs) = ap (λ c. points_in_tuples c (drop i glyphs)) counts_prefix ∙ ap (points_in_tuples (count ∷ drop (i + 1) counts)) glyphs_prefix in
+    omega (arith, opened, ap length glyphs_prefix)
 
 -- all glyphs together want less than 32 bits can count
 pub wanted_at_first : (axes : ℕ) (counts : List ℕ) (glyphs : List (List Tuple)) → AreGlyphsOf axes counts glyphs → wanted 0 counts glyphs < 2 ^ 32
@@ -142,17 +133,17 @@ pub one_table : (axes : ℕ) (counts : List ℕ) (glyphs : List (List Tuple)) (b
 one_table axes counts glyphs bytes other a b =
     a.spelled ∙ ap (λ d. table_header axes (length d) ++ (offset_bytes d ++ joined d)) (one_list_of_blocks counts glyphs a.blocks b.blocks a.each b.each) ∙ sym b.spelled
 
--- the header's fields, one behind another
-pub header_spelled : (axes glyphs place : ℕ) (b0 b1 b2 b3 b4 b5 b6 b7 b8 : List ℕ) → place ≡ data_place glyphs → b1 ≡ b0 ++ word 1 → b2 ≡ b1 ++ word 0 → b3 ≡ b2 ++ word axes → b4 ≡ b3 ++ word 0 → b5 ≡ b4 ++ long place → b6 ≡ b5 ++ word glyphs → b7 ≡ b6 ++ word 1 → b8 ≡ b7 ++ long place → b8 ≡ b0 ++ table_header axes glyphs
+-- the header's fields, one after another
+pub header_spelled : (axes glyphs offset : ℕ) (b0 b1 b2 b3 b4 b5 b6 b7 b8 : List ℕ) → offset ≡ data_offset glyphs → b1 ≡ b0 ++ word 1 → b2 ≡ b1 ++ word 0 → b3 ≡ b2 ++ word axes → b4 ≡ b3 ++ word 0 → b5 ≡ b4 ++ long offset → b6 ≡ b5 ++ word glyphs → b7 ≡ b6 ++ word 1 → b8 ≡ b7 ++ long offset → b8 ≡ b0 ++ table_header axes glyphs
 unfolding table_header
-header_spelled axes glyphs place b0 b1 b2 b3 b4 b5 b6 b7 b8 is e1 e2 e3 e4 e5 e6 e7 e8 =
-    e8 ∙ ap (λ b. b ++ long place) (e7 ∙ ap (λ b. b ++ word 1) (e6 ∙ ap (λ b. b ++ word glyphs) (e5 ∙ ap (λ b. b ++ long place) (e4 ∙ ap (λ b. b ++ word 0) (e3 ∙ ap (λ b. b ++ word axes) (e2 ∙ ap (λ b. b ++ word 0) e1))))))
+header_spelled axes glyphs offset b0 b1 b2 b3 b4 b5 b6 b7 b8 is e1 e2 e3 e4 e5 e6 e7 e8 =
+    e8 ∙ ap (λ b. b ++ long offset) (e7 ∙ ap (λ b. b ++ word 1) (e6 ∙ ap (λ b. b ++ word glyphs) (e5 ∙ ap (λ b. b ++ long offset) (e4 ∙ ap (λ b. b ++ word 0) (e3 ∙ ap (λ b. b ++ word axes) (e2 ∙ ap (λ b. b ++ word 0) e1))))))
     ∙ ap (λ p. ((((((((b0 ++ word 1) ++ word 0) ++ word axes) ++ word 0) ++ long p) ++ word glyphs) ++ word 1) ++ long p)) is
     ∙ simp append_assoc
 
--- the header, the offsets and the data, one behind another
-pub table_spelled : (header none front listed bytes offsets more_offsets body more_body : List ℕ) → none ≡ [] → front ≡ none ++ header → more_offsets ≡ offsets → listed ≡ front ++ more_offsets → more_body ≡ body → bytes ≡ listed ++ more_body → bytes ≡ header ++ (offsets ++ body)
-table_spelled header none front listed bytes offsets more_offsets body more_body is_none front_is same_offsets listed_is same_body bytes_are =
+-- the header, the offsets and the data, one after another
+pub table_spelled : (header none prefix listed bytes offsets more_offsets body more_body : List ℕ) → none ≡ [] → prefix ≡ none ++ header → more_offsets ≡ offsets → listed ≡ prefix ++ more_offsets → more_body ≡ body → bytes ≡ listed ++ more_body → bytes ≡ header ++ (offsets ++ body)
+table_spelled header none prefix listed bytes offsets more_offsets body more_body is_none prefix_is same_offsets listed_is same_body bytes_are =
     bytes_are ∙ ap (λ b. listed ++ b) same_body
-    ∙ ap (λ l. l ++ body) (listed_is ∙ ap (λ o. front ++ o) same_offsets ∙ ap (λ f. f ++ offsets) (front_is ∙ ap (λ n. n ++ header) is_none))
+    ∙ ap (λ l. l ++ body) (listed_is ∙ ap (λ o. prefix ++ o) same_offsets ∙ ap (λ f. f ++ offsets) (prefix_is ∙ ap (λ n. n ++ header) is_none))
     ∙ append_assoc header offsets body

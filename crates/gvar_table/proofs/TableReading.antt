@@ -10,7 +10,7 @@ use Rattle.variation_rules.specs.TupleVariations.{IsTuple, MeansTuples, PacksTup
 use Rattle.variation_rules.specs.VariationsTable.{IsVariationsTable, glyph_slice, long_in, offset_in, word_in}
 use Rattle.gvar_table.specs.declared.tuple.Tuple.{Tuple}
 use Rattle.gvar_table.specs.Layout.{IsWritten}
-use Rattle.gvar_table.specs.Table.{AreGlyphsOf, IsWrittenTable, data_place, ends_from, joined, long, offset_bytes, table_header}
+use Rattle.gvar_table.specs.Table.{AreGlyphsOf, IsWrittenTable, data_offset, ends_from, joined, long, offset_bytes, table_header}
 use Rattle.gvar_table.specs.Tuples.{variation_of}
 use Rattle.gvar_table.proofs.GlyphLemmas.{means, packs}
 use Rattle.gvar_table.proofs.TableLemmas.{table_block_each, tuples_at, written_at}
@@ -33,7 +33,7 @@ ends_length : (at : ℕ) (blocks : List (List ℕ)) → length (ends_from at blo
 ends_length at [] = refl
 ends_length at (own ∷ blocks) = omega (arith, ends_length (at + length own) blocks)
 
--- where the data of a glyph begin, and behind the last one's end
+-- where the data of a glyph begin, and after the last one's end
 abbrev start_of : ℕ → List (List ℕ) → ℕ → ℕ
 start_of at blocks g = get_or (at ∷ ends_from at blocks) g 0
 
@@ -74,7 +74,7 @@ slice_is at (own ∷ blocks) (suc g) inside =
     (sym (drop-drop (start_of (at + length own) blocks g - (at + length own)) (length own) (own ++ joined blocks)) ∙ ap (drop (start_of (at + length own) blocks g - (at + length own))) (drop_at own (joined blocks) (length own) refl))
     ∙ slice_is (at + length own) blocks g (omega arith)
 
--- the header's fields, each at its place
+-- the header's fields, each at its offset
 header_length : (axes glyphs : ℕ) → length (table_header axes glyphs) ≡ 20
 unfolding table_header
 header_length axes glyphs = refl
@@ -103,38 +103,38 @@ flags_at : (axes glyphs : ℕ) (rest : List ℕ) → take 2 (drop 14 (table_head
 unfolding table_header
 flags_at axes glyphs rest = refl
 
-place_at : (axes glyphs : ℕ) (rest : List ℕ) → take 4 (drop 16 (table_header axes glyphs ++ rest)) ≡ long (data_place glyphs)
+offset_at : (axes glyphs : ℕ) (rest : List ℕ) → take 4 (drop 16 (table_header axes glyphs ++ rest)) ≡ long (data_offset glyphs)
 unfolding table_header
-place_at axes glyphs rest = refl
+offset_at axes glyphs rest = refl
 
-read_word : (bytes : List ℕ) (place n : ℕ) → n < 2 ^ 16 → take 2 (drop place bytes) ≡ word n → word_in bytes place ≡ n
-read_word bytes place n fits is = ap (from_be_bytes w16) is ∙ from_be_bytes-to_be_bytes_2 n fits
+read_word : (bytes : List ℕ) (offset n : ℕ) → n < 2 ^ 16 → take 2 (drop offset bytes) ≡ word n → word_in bytes offset ≡ n
+read_word bytes offset n fits is = ap (from_be_bytes w16) is ∙ from_be_bytes-to_be_bytes_2 n fits
 
-read_long : (bytes : List ℕ) (place n : ℕ) → n < 2 ^ 32 → take 4 (drop place bytes) ≡ long n → long_in bytes place ≡ n
-read_long bytes place n fits is = ap (from_be_bytes w32) is ∙ from_be_bytes-to_be_bytes_4 n fits
+read_long : (bytes : List ℕ) (offset n : ℕ) → n < 2 ^ 32 → take 4 (drop offset bytes) ≡ long n → long_in bytes offset ≡ n
+read_long bytes offset n fits is = ap (from_be_bytes w32) is ∙ from_be_bytes-to_be_bytes_4 n fits
 
 module _ (axes : ℕ) (blocks : List (List ℕ)) (axes_fit : axes < 2 ^ 16) (glyphs_fit : length blocks < 2 ^ 16) (data_fit : length (joined blocks) < 2 ^ 32) where
   abbrev table_bytes : List ℕ
   table_bytes = table_header axes (length blocks) ++ (offset_bytes blocks ++ joined blocks)
 
-  pub place_is : long_in table_bytes 16 ≡ data_place (length blocks)
-  place_is = read_long table_bytes 16 (data_place (length blocks)) (omega arith) (place_at axes (length blocks) (offset_bytes blocks ++ joined blocks))
+  pub offset_same : long_in table_bytes 16 ≡ data_offset (length blocks)
+  offset_same = read_long table_bytes 16 (data_offset (length blocks)) (omega arith) (offset_at axes (length blocks) (offset_bytes blocks ++ joined blocks))
 
   pub offset_is : (g : ℕ) → g ≤ length blocks → offset_in table_bytes g ≡ start_of 0 blocks g
   offset_is g within =
       let rest : List ℕ = offset_bytes blocks ++ joined blocks in
-      let behind : drop (20 + 4 * g) table_bytes ≡ drop (4 * g) rest = sym (drop-drop (4 * g) 20 table_bytes) ∙ ap (drop (4 * g)) (drop_at (table_header axes (length blocks)) rest 20 (header_length axes (length blocks))) in
+      let after : drop (20 + 4 * g) table_bytes ≡ drop (4 * g) rest = sym (drop-drop (4 * g) 20 table_bytes) ∙ ap (drop (4 * g)) (drop_at (table_header axes (length blocks)) rest 20 (header_length axes (length blocks))) in
       let there = at_long (0 ∷ ends_from 0 blocks) (joined blocks) g (omega (arith, ends_length 0 blocks)) in
-      read_long table_bytes (20 + 4 * g) (start_of 0 blocks g) (omega (arith, starts_within 0 blocks g within)) (ap (take 4) behind ∙ there)
+      read_long table_bytes (20 + 4 * g) (start_of 0 blocks g) (omega (arith, starts_within 0 blocks g within)) (ap (take 4) after ∙ there)
 
-  -- behind the place of the data and a glyph's start
-  data_behind : (n : ℕ) → drop (data_place (length blocks) + n) table_bytes ≡ drop n (joined blocks)
-  data_behind n =
-      let front : List ℕ = table_header axes (length blocks) ++ offset_bytes blocks in
-      let size : length front ≡ data_place (length blocks) = omega (arith, length-append (table_header axes (length blocks)) (offset_bytes blocks), header_length axes (length blocks), offsets_length (0 ∷ ends_from 0 blocks), ends_length 0 blocks) in
-      ap (drop (data_place (length blocks) + n)) (sym (append_assoc (table_header axes (length blocks)) (offset_bytes blocks) (joined blocks)))
-      ∙ sym (drop-drop n (data_place (length blocks)) (front ++ joined blocks))
-      ∙ ap (drop n) (drop_at front (joined blocks) (data_place (length blocks)) size)
+  -- after the offset of the data and a glyph's start
+  data_after : (n : ℕ) → drop (data_offset (length blocks) + n) table_bytes ≡ drop n (joined blocks)
+  data_after n =
+      let prefix : List ℕ = table_header axes (length blocks) ++ offset_bytes blocks in
+      let size : length prefix ≡ data_offset (length blocks) = omega (arith, length-append (table_header axes (length blocks)) (offset_bytes blocks), header_length axes (length blocks), offsets_length (0 ∷ ends_from 0 blocks), ends_length 0 blocks) in
+      ap (drop (data_offset (length blocks) + n)) (sym (append_assoc (table_header axes (length blocks)) (offset_bytes blocks) (joined blocks)))
+      ∙ sym (drop-drop n (data_offset (length blocks)) (prefix ++ joined blocks))
+      ∙ ap (drop n) (drop_at prefix (joined blocks) (data_offset (length blocks)) size)
 
   pub slice_at : (g : ℕ) → g < length blocks → glyph_slice table_bytes g ≡ get_or blocks g []
   slice_at g inside =
@@ -143,14 +143,14 @@ module _ (axes : ℕ) (blocks : List (List ℕ)) (axes_fit : axes < 2 ^ 16) (gly
       let none : start_of 0 blocks g - 0 ≡ start_of 0 blocks g = omega arith in
       ap (λ n. take (n - offset_in table_bytes g) (drop (long_in table_bytes 16 + offset_in table_bytes g) table_bytes)) next
       ∙ ap (λ n. take (start_of 0 blocks (suc g) - n) (drop (long_in table_bytes 16 + n) table_bytes)) here
-      ∙ ap (λ p. take (start_of 0 blocks (suc g) - start_of 0 blocks g) (drop (p + start_of 0 blocks g) table_bytes)) place_is
-      ∙ ap (take (start_of 0 blocks (suc g) - start_of 0 blocks g)) (data_behind (start_of 0 blocks g) ∙ ap (λ n. drop n (joined blocks)) (sym none))
+      ∙ ap (λ p. take (start_of 0 blocks (suc g) - start_of 0 blocks g) (drop (p + start_of 0 blocks g) table_bytes)) offset_same
+      ∙ ap (take (start_of 0 blocks (suc g) - start_of 0 blocks g)) (data_after (start_of 0 blocks g) ∙ ap (λ n. drop n (joined blocks)) (sym none))
       ∙ slice_is 0 blocks g inside
 
   pub is_table : IsVariationsTable axes (length blocks) [] table_bytes
   is_table =
       let rest : List ℕ = offset_bytes blocks ++ joined blocks in
-      let front : List ℕ = table_header axes (length blocks) ++ offset_bytes blocks in
+      let prefix : List ℕ = table_header axes (length blocks) ++ offset_bytes blocks in
       record {
         major = read_word table_bytes 0 1 (omega arith) (major_at axes (length blocks) rest);
         minor = read_word table_bytes 2 0 (omega arith) (minor_at axes (length blocks) rest);
@@ -160,10 +160,10 @@ module _ (axes : ℕ) (blocks : List (List ℕ)) (axes_fit : axes < 2 ^ 16) (gly
         peaks_there = refl;
         glyph_count = read_word table_bytes 12 (length blocks) glyphs_fit (glyphs_at axes (length blocks) rest);
         flags = read_word table_bytes 14 1 (omega arith) (flags_at axes (length blocks) rest);
-        offsets_before = omega (arith, place_is);
+        offsets_before = omega (arith, offset_same);
         first = offset_is 0 (omega arith);
         rise = λ g inside. omega (arith, offset_is g (omega arith), offset_is (g + 1) (omega arith), ap (start_of 0 blocks) (add-one g), starts_rise 0 blocks g inside);
-        last = omega (arith, place_is, offset_is (length blocks) (omega arith), last_start 0 blocks, length-append (table_header axes (length blocks)) rest, length-append (offset_bytes blocks) (joined blocks), header_length axes (length blocks), offsets_length (0 ∷ ends_from 0 blocks), ends_length 0 blocks);
+        last = omega (arith, offset_same, offset_is (length blocks) (omega arith), last_start 0 blocks, length-append (table_header axes (length blocks)) rest, length-append (offset_bytes blocks) (joined blocks), header_length axes (length blocks), offsets_length (0 ∷ ends_from 0 blocks), ends_length 0 blocks);
       }
 
 -- the table that is written is one

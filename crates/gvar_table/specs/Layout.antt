@@ -20,19 +20,19 @@ coordinate_of Peak triple = triple.peak
 coordinate_of End triple = triple.end
 
 -- the axis reaches from the default to its peak
-abbrev pub is_plain_axis : Triple → Bool
-is_plain_axis triple = int_eq triple.start (int_min (pos 0) triple.peak) && int_eq triple.end (int_max (pos 0) triple.peak)
+abbrev pub is_implied_axis : Triple → Bool
+is_implied_axis triple = int_eq triple.start (int_min (pos 0) triple.peak) && int_eq triple.end (int_max (pos 0) triple.peak)
 
 -- and so does every axis of the region
-abbrev pub is_plain : List Triple → Bool
-is_plain region = list_all is_plain_axis region
+abbrev pub is_implied : List Triple → Bool
+is_implied region = list_all is_implied_axis region
 
 -- The header of a tuple: an embedded peak, points of its own, and start and end for all axes exactly where the
 -- region isn't plain.
 abbrev pub header_of : List Triple → Header
 header_of region = record {
   peak = embedded (map (coordinate_of Peak) region);
-  intermediate = if is_plain region then None else Some (record { starts = map (coordinate_of Start) region; ends = map (coordinate_of End) region });
+  intermediate = if is_implied region then None else Some (record { starts = map (coordinate_of Start) region; ends = map (coordinate_of End) region });
   private = true;
 }
 
@@ -52,7 +52,7 @@ AreWritten count headers parts (tuple ∷ tuples) =
     × (parts ≡ part ++ more_parts)
     × AreWritten count more_headers more_parts tuples
 
--- the number of tuples, the place behind the headers, the headers, the packed parts
+-- the number of tuples, the offset after the headers, the headers, the packed parts
 pub record IsWrittenData (count : ℕ) (bytes : List ℕ) (tuples : List TupleVariation) : Type 0 where
   pub headers : List ℕ
   pub parts : List ℕ
@@ -65,9 +65,9 @@ abbrev pub IsWritten : ℕ → List ℕ → List TupleVariation → Type 0
 IsWritten count bytes [] = bytes ≡ []
 IsWritten count bytes (tuple ∷ tuples) = IsWrittenData count bytes (tuple ∷ tuples)
 
--- one tuple more behind the headers and the packed parts that are written
+-- one tuple more after the headers and the packed parts that are written
 pub record AddsTuple (count : ℕ) (tuple : TupleVariation) (headers new_headers parts new_parts : List ℕ) : Type 0 where
   pub part : List ℕ
   pub is_written : IsWrittenPart count part tuple
-  pub header_behind : new_headers ≡ headers ++ header_bytes (length part) (header_of tuple.region)
-  pub part_behind : new_parts ≡ parts ++ part
+  pub header_after : new_headers ≡ headers ++ header_bytes (length part) (header_of tuple.region)
+  pub part_after : new_parts ≡ parts ++ part

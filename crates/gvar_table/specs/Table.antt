@@ -25,7 +25,7 @@ pub record AreGlyphsOf (axes : ℕ) (counts : List ℕ) (glyphs : List (List Tup
 abbrev pub long : ℕ → List ℕ
 long n = to_be_bytes w32 n
 
--- where each glyph's data end, behind one another from a place on
+-- where each glyph's data end, one after another from one on
 abbrev pub ends_from : ℕ → List (List ℕ) → List ℕ
 ends_from at [] = []
 ends_from at (own ∷ more) = (at + length own) ∷ ends_from (at + length own) more
@@ -38,13 +38,13 @@ offset_bytes blocks = flat_map long (0 ∷ ends_from 0 blocks)
 abbrev pub joined : List (List ℕ) → List ℕ
 joined blocks = flat_map (λ own. own) blocks
 
--- the place behind the header and the offsets
-abbrev pub data_place : ℕ → ℕ
-data_place glyphs = 24 + 4 * glyphs
+-- the offset after the header and the offsets
+abbrev pub data_offset : ℕ → ℕ
+data_offset glyphs = 24 + 4 * glyphs
 
--- version 1.0, the axes, no shared peaks and their place, the glyphs, the flag of 32-bit offsets, the place of the data
+-- version 1.0, the axes, no shared peaks and their offset, the glyphs, the flag of 32-bit offsets, the offset of the data
 unfoldable pub table_header : ℕ → ℕ → List ℕ
-table_header axes glyphs = word 1 ++ (word 0 ++ (word axes ++ (word 0 ++ (long (data_place glyphs) ++ (word glyphs ++ (word 1 ++ long (data_place glyphs)))))))
+table_header axes glyphs = word 1 ++ (word 0 ++ (word axes ++ (word 0 ++ (long (data_offset glyphs) ++ (word glyphs ++ (word 1 ++ long (data_offset glyphs)))))))
 
 -- the data of each glyph
 abbrev pub AreAllWritten : List ℕ → List (List Tuple) → List (List ℕ) → Type 0
@@ -58,10 +58,10 @@ pub record IsWrittenTable (axes : ℕ) (counts : List ℕ) (glyphs : List (List 
   pub small : length (joined blocks) < 2 ^ 32
   pub spelled : bytes ≡ table_header axes (length blocks) ++ (offset_bytes blocks ++ joined blocks)
 
--- one glyph more behind the offsets and the data that are written
+-- one glyph more after the offsets and the data that are written
 pub record AddsGlyph (count : ℕ) (tuples : List Tuple) (offsets new_offsets body new_body : List ℕ) : Type 0 where
   pub own : List ℕ
   pub is_written : IsWritten count own (map variation_of tuples)
   pub short : length own ≤ 4 + 23 * (count * length tuples)
-  pub body_behind : new_body ≡ body ++ own
-  pub offset_behind : new_offsets ≡ offsets ++ long (length body + length own)
+  pub body_after : new_body ≡ body ++ own
+  pub offset_after : new_offsets ≡ offsets ++ long (length body + length own)

@@ -7,8 +7,8 @@ ghost use Rattle.gvar_table.specs.Table.{AreGlyphsOf};
 ghost use Rattle.gvar_table.specs.Tuples.{AreTuplesOf, IsCoordinate, IsDelta, IsRegionAxis, IsTupleOf};
 
 use crate::Tuple;
-use fixpoint::Pair;
 use basics::Seq;
+use fixpoint::Pair;
 use variation_rules::Triple;
 
 /// Whether a raw number is a coordinate.

@@ -7,12 +7,12 @@ ghost use Rattle.gvar_table.specs.Tuples.{AreTuplesOf, IsTupleOf, variation_of};
 use crate::header::push_header;
 use crate::part::pack_part;
 use crate::tuple::Tuple;
-use be_bytes::{put_bytes, put_u16};
 use basics::{NoMemory, Seq};
+use be_bytes::{put_bytes, put_u16};
 use std::alloc::Global;
 
-/// The bytes of the number of tuples and of the place of the packed parts.
-const FRONT: u16 = 4;
+/// The bytes of the number of tuples and of the offset of the packed parts.
+const COUNT_AND_OFFSET: u16 = 4;
 
 /// The variation data of a glyph (OpenType, "gvar"), in a font of so many axes, 1 to 8, for a glyph of so many
 /// points, 4 to 4,004 with the four phantom points. There are at most 127 tuples; each has one triple an axis, of
@@ -43,7 +43,7 @@ pub fn glyph_data(
         push_tuple(alloc, axes, count, tuple, &mut headers, &mut parts)?;
     }
     put_u16(&mut bytes, tuples.len() as u16)?;
-    put_u16(&mut bytes, FRONT + headers.len() as u16)?;
+    put_u16(&mut bytes, COUNT_AND_OFFSET + headers.len() as u16)?;
     put_bytes(&mut bytes, &headers)?;
     put_bytes(&mut bytes, &parts)?;
     Ok(bytes)

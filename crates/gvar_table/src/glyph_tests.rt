@@ -1,15 +1,16 @@
 use crate::conditions::are_tuples_of;
-use crate::{Tuple, glyph_data, one_spelling};
+use crate::{Tuple, glyph_data, spelling_law};
 use arrayvec::ArrayVec;
-use fixpoint::{Fix, Pair};
 use basics::{NoMemory, Seq};
+use fixpoint::{Fix, Pair};
 use std::alloc::Global;
+use std::process::Abort;
 use std::test::*;
 use variation_decoder::read_tuples;
 use variation_rules::{Triple, TupleVariation};
 
 /// A tuple: start, peak and end of each axis, and the points, each with its number and its delta.
-pub(crate) struct Plain {
+pub(crate) struct Expected {
     pub(crate) region: &'static [(i32, i32, i32)],
     pub(crate) points: &'static [(u16, i32, i32)],
 }
@@ -19,7 +20,7 @@ struct Case {
     name: &'static str,
     axes: u16,
     count: u16,
-    tuples: &'static [Plain],
+    tuples: &'static [Expected],
     bytes: &'static [u8],
 }
 
@@ -35,7 +36,7 @@ const CASES: [Case; 8] = [
         name: "all points, the phantom points don't move",
         axes: 1,
         count: 7,
-        tuples: &[Plain {
+        tuples: &[Expected {
             region: &[(0, 16384, 16384)],
             points: &[
                 (0, 50, 0),
@@ -56,7 +57,7 @@ const CASES: [Case; 8] = [
         name: "the second phantom point alone",
         axes: 1,
         count: 4,
-        tuples: &[Plain {
+        tuples: &[Expected {
             region: &[(0, 16384, 16384)],
             points: &[(1, 60, 0)],
         }],
@@ -69,7 +70,7 @@ const CASES: [Case; 8] = [
         name: "two points of four",
         axes: 1,
         count: 8,
-        tuples: &[Plain {
+        tuples: &[Expected {
             region: &[(0, 16384, 16384)],
             points: &[(0, 0, 0), (1, 50, 0)],
         }],
@@ -82,7 +83,7 @@ const CASES: [Case; 8] = [
         name: "a negative peak, and deltas of words",
         axes: 1,
         count: 5,
-        tuples: &[Plain {
+        tuples: &[Expected {
             region: &[(-16384, -16384, 0)],
             points: &[(0, -200, 300)],
         }],
@@ -95,7 +96,7 @@ const CASES: [Case; 8] = [
         name: "a region between the default and the end, on the first of two axes",
         axes: 2,
         count: 5,
-        tuples: &[Plain {
+        tuples: &[Expected {
             region: &[(0, 8192, 16384), (0, 0, 0)],
             points: &[(0, 10, -10)],
         }],
@@ -109,7 +110,7 @@ const CASES: [Case; 8] = [
         name: "a region that ends early, on the second of two axes",
         axes: 2,
         count: 5,
-        tuples: &[Plain {
+        tuples: &[Expected {
             region: &[(0, 16384, 16384), (-12288, -8192, -4096)],
             points: &[(4, 1, 2)],
         }],
@@ -123,11 +124,11 @@ const CASES: [Case; 8] = [
         axes: 1,
         count: 4,
         tuples: &[
-            Plain {
+            Expected {
                 region: &[(0, 8192, 16384)],
                 points: &[(1, 60, 0)],
             },
-            Plain {
+            Expected {
                 region: &[(0, 16384, 16384)],
                 points: &[(0, 0, 1), (1, 2, 0), (2, 0, 0), (3, 0, 0)],
             },
@@ -141,10 +142,10 @@ const CASES: [Case; 8] = [
     },
 ];
 
-/// The tuple that a plain one tells.
-fn tuple_of(alloc: Global, plain: &Plain) -> Result<Tuple, NoMemory> {
+/// The tuple that is expected.
+fn tuple_of(alloc: Global, expected: &Expected) -> Result<Tuple, NoMemory> {
     let mut support = ArrayVec::new();
-    for &(start, peak, end) in plain.region {
+    for &(start, peak, end) in expected.region {
         if support.len() < 8 {
             support.push(Triple {
                 start: Fix::from_raw(start),
@@ -155,7 +156,7 @@ fn tuple_of(alloc: Global, plain: &Plain) -> Result<Tuple, NoMemory> {
     }
     let mut points = Seq::new(alloc);
     let mut deltas = Seq::new(alloc);
-    for &(point, x, y) in plain.points {
+    for &(point, x, y) in expected.points {
         points.push(point)?;
         deltas.push(Pair { x, y })?;
     }
@@ -166,40 +167,33 @@ fn tuple_of(alloc: Global, plain: &Plain) -> Result<Tuple, NoMemory> {
     })
 }
 
-/// The tuples that plain ones tell.
-pub(crate) fn tuples_of(alloc: Global, plain: &[Plain]) -> Result<Seq<Tuple>, NoMemory> {
+/// The tuples that are expected.
+pub(crate) fn tuples_of(alloc: Global, expected: &[Expected]) -> Result<Seq<Tuple>, NoMemory> {
     let mut tuples = Seq::new(alloc);
-    for tuple in plain {
+    for tuple in expected {
         tuples.push(tuple_of(alloc, tuple)?)?;
     }
     Ok(tuples)
 }
 
-/// Whether the tuple that was read is the one that was written.
-fn is_same(read: &TupleVariation, written: &Tuple) -> bool {
-    read.region.as_slice() == written.support.as_slice()
-        && read.points.as_slice() == written.points.as_slice()
-        && read.deltas.as_slice() == written.deltas.as_slice()
-}
-
-/// Whether the plain reader finds the tuples in the bytes.
+/// The slow reader finds the tuples in the bytes.
 pub(crate) fn reads_back(
+    rt: &impl Abort,
     alloc: Global,
     axes: u16,
     count: u16,
     tuples: &[Tuple],
     bytes: &[u8],
-) -> Result<bool, Fail> {
+) -> Result<(), Fail> {
     let peaks = Seq::new(alloc);
     let read = read_tuples(alloc, axes, count, &peaks, bytes)?.ok_or("no reading")?;
-    let read = read.as_slice();
-    Ok(
-        read.len() == tuples.len()
-            && read
-                .iter()
-                .zip(tuples)
-                .all(|(read, written)| is_same(read, written)),
-    )
+    assert_eq!(rt; read.len(), tuples.len());
+    for (read, written) in read.as_slice().iter().zip(tuples) {
+        assert_eq!(rt; read.region.as_slice(), written.support.as_slice());
+        assert_eq!(rt; read.points.as_slice(), written.points.as_slice());
+        assert_eq!(rt; read.deltas.as_slice(), written.deltas.as_slice());
+    }
+    Ok(())
 }
 
 #[test]
@@ -210,11 +204,14 @@ fn bytes_by_hand(rt: HostRuntime) -> Result<(), Fail> {
         assert!(rt; are_tuples_of(axes, case.count, tuples.as_slice()));
         let bytes = glyph_data(rt.alloc(), axes, case.count, &tuples)?;
         assert_eq!(rt; bytes.as_slice(), case.bytes, "{}", case.name);
-        assert!(rt;
-            reads_back(rt.alloc(), case.axes, case.count, tuples.as_slice(), &bytes)?,
-            "{}",
-            case.name
-        );
+        reads_back(
+            &rt,
+            rt.alloc(),
+            case.axes,
+            case.count,
+            tuples.as_slice(),
+            &bytes,
+        )?;
     }
     Ok(())
 }
@@ -256,12 +253,12 @@ fn as_many_points_as_there_may_be(rt: HostRuntime) -> Result<(), Fail> {
         let points = if count == 4003 { 2 + 4003 + 32 } else { 1 };
         let len = 56 + points + 2 * (2 * usize::from(count) + 63);
         assert_eq!(rt; bytes.len(), len);
-        assert!(rt; reads_back(rt.alloc(), 8, 4004, tuples.as_slice(), &bytes)?);
+        reads_back(&rt, rt.alloc(), 8, 4004, tuples.as_slice(), &bytes)?;
     }
     Ok(())
 }
 
 #[test]
 fn one_spelling_is_a_law() {
-    one_spelling();
+    spelling_law();
 }

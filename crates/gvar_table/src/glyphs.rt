@@ -6,11 +6,11 @@ ghost use Rattle.gvar_table.specs.Tuples.{AreTuplesOf, variation_of};
 
 use crate::glyph::glyph_data;
 use crate::tuple::Tuple;
-use be_bytes::{put_bytes, put_u16, put_u32};
 use basics::{NoMemory, Seq};
+use be_bytes::{put_bytes, put_u16, put_u32};
 use std::alloc::Global;
 
-/// The bytes of the header and of the offset behind the last glyph's.
+/// The bytes of the header and of the offset after the last glyph's.
 const HEADER_AND_END: u32 = 24;
 
 /// The bytes of an offset.
@@ -54,18 +54,18 @@ pub fn table(
 fn push_header(bytes: &mut Vec<u8>, axes: u16, glyphs: u16) -> Result<(), NoMemory>
     ensures { OnOk result (bytes.new.items ≡ bytes.old.items ++ table_header axes glyphs) }
 {
-    let place = HEADER_AND_END + OFFSET * u32::from(glyphs);
+    let offset = HEADER_AND_END + OFFSET * u32::from(glyphs);
     put_u16(bytes, 1)?;
     put_u16(bytes, 0)?;
     put_u16(bytes, axes)?;
     put_u16(bytes, 0)?;
-    put_u32(bytes, place)?;
+    put_u32(bytes, offset)?;
     put_u16(bytes, glyphs)?;
     put_u16(bytes, LONG_OFFSETS)?;
-    put_u32(bytes, place)
+    put_u32(bytes, offset)
 }
 
-/// Adds the data of a glyph, and the offset behind it.
+/// Adds the data of a glyph, and the offset after it.
 fn push_glyph(
     alloc: Global,
     axes: u32,

@@ -3,19 +3,19 @@ ghost use Rattle.std.specs.Int.{w16};
 ghost use Rattle.std.specs.List.{flat_map};
 ghost use Rattle.variation_rules.specs.Fields.{signed_word};
 ghost use Rattle.variation_rules.specs.TupleVariations.{header_bytes};
-ghost use Rattle.gvar_table.specs.Layout.{coordinate_of, header_of, is_plain, is_plain_axis};
+ghost use Rattle.gvar_table.specs.Layout.{coordinate_of, header_of, is_implied, is_implied_axis};
 ghost use Rattle.gvar_table.specs.Tuples.{IsRegionAxis};
 
+use basics::NoMemory;
 use be_bytes::{put_i16, put_u16};
 use fixpoint::Fix;
-use basics::NoMemory;
 use variation_rules::Triple;
 
 /// The tupleIndex of an embedded peak and private points.
-const PLAIN: u16 = 0x8000 | 0x2000;
+const IMPLIED: u16 = 0x8000 | 0x2000;
 
 /// The same with the flag of an intermediate region.
-const INTERMEDIATE: u16 = PLAIN | 0x4000;
+const INTERMEDIATE: u16 = IMPLIED | 0x4000;
 
 /// One of the three coordinates of an axis.
 #[derive(Clone, Copy, Debug, PartialEq, Eq)]
@@ -39,8 +39,8 @@ pub(crate) fn push_header(
     ensures { OnOk result (headers.new.items ≡ headers.old.items ++ header_bytes size (header_of region.now)) }
 {
     put_u16(headers, size)?;
-    if is_plain(region) {
-        put_u16(headers, PLAIN)?;
+    if is_implied(region) {
+        put_u16(headers, IMPLIED)?;
         push_coordinates(headers, Coordinate::Peak, region)
     } else {
         put_u16(headers, INTERMEDIATE)?;
@@ -51,15 +51,15 @@ pub(crate) fn push_header(
 }
 
 /// Whether each axis reaches from the default to its peak.
-fn is_plain(region: &[Triple]) -> bool
-    ensures { result ≡ is_plain region.now }
+fn is_implied(region: &[Triple]) -> bool
+    ensures { result ≡ is_implied region.now }
 {
-    region.iter().all(is_plain_axis)
+    region.iter().all(is_implied_axis)
 }
 
 /// Whether the axis reaches from the default to its peak.
-fn is_plain_axis(axis: &Triple) -> bool
-    ensures { result ≡ is_plain_axis axis.now }
+fn is_implied_axis(axis: &Triple) -> bool
+    ensures { result ≡ is_implied_axis axis.now }
 {
     let peak = axis.peak.raw();
     axis.start.raw() == 0.min(peak) && axis.end.raw() == 0.max(peak)

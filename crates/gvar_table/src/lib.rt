@@ -17,5 +17,5 @@ mod tuple;
 
 pub use glyph::glyph_data;
 pub use glyphs::table;
-pub use laws::one_spelling;
+pub use laws::spelling_law;
 pub use tuple::Tuple;

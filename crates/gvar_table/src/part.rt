@@ -6,9 +6,9 @@ ghost use Rattle.gvar_table.specs.Layout.{IsWrittenPart};
 ghost use Rattle.gvar_table.specs.Tuples.{ArePointDeltas, IsDelta, variation_of};
 
 use crate::tuple::Tuple;
+use basics::NoMemory;
 use be_bytes::{put_bytes, put_u8};
 use fixpoint::Pair;
-use basics::NoMemory;
 use packed::{pack_deltas, pack_points};
 use std::alloc::{AllocError, Global};
 

@@ -1,5 +1,5 @@
 use crate::conditions::are_glyphs_of;
-use crate::glyph_tests::{Plain, reads_back, tuples_of};
+use crate::glyph_tests::{Expected, reads_back, tuples_of};
 use crate::{Tuple, table};
 use basics::{NoMemory, Seq};
 use std::alloc::Global;
@@ -8,16 +8,16 @@ use std::test::*;
 /// A glyph: the number of its points, the four phantom points among them, and its tuples.
 struct Glyph {
     count: u16,
-    tuples: &'static [Plain],
+    tuples: &'static [Expected],
 }
 
-/// Glyphs and their table, worked out by hand, with the place of each glyph's data and the end.
+/// Glyphs and their table, worked out by hand, with the offset of each glyph's data and the end.
 struct Case {
     name: &'static str,
     axes: u16,
     glyphs: &'static [Glyph],
     bytes: &'static [u8],
-    places: &'static [usize],
+    offsets: &'static [usize],
 }
 
 const NO_TUPLES: Glyph = Glyph {
@@ -28,7 +28,7 @@ const NO_TUPLES: Glyph = Glyph {
 /// The second phantom point alone.
 const WIDER: Glyph = Glyph {
     count: 4,
-    tuples: &[Plain {
+    tuples: &[Expected {
         region: &[(0, 16384, 16384)],
         points: &[(1, 60, 0)],
     }],
@@ -37,7 +37,7 @@ const WIDER: Glyph = Glyph {
 /// All three points move, the phantom points don't.
 const MOVED: Glyph = Glyph {
     count: 7,
-    tuples: &[Plain {
+    tuples: &[Expected {
         region: &[(0, 16384, 16384)],
         points: &[
             (0, 50, 0),
@@ -60,7 +60,7 @@ const CASES: [Case; 3] = [
             0x00, 0x01, 0x00, 0x00, 0x00, 0x02, 0x00, 0x00, 0x00, 0x00, 0x00, 0x18, 0x00, 0x00,
             0x00, 0x01, 0x00, 0x00, 0x00, 0x18, 0x00, 0x00, 0x00, 0x00,
         ],
-        places: &[24],
+        offsets: &[24],
     },
     Case {
         name: "glyphs without tuples",
@@ -71,7 +71,7 @@ const CASES: [Case; 3] = [
             0x00, 0x01, 0x00, 0x00, 0x00, 0x20, 0x00, 0x00, 0x00, 0x00, 0x00, 0x00, 0x00, 0x00,
             0x00, 0x00, 0x00, 0x00,
         ],
-        places: &[32, 32, 32],
+        offsets: &[32, 32, 32],
     },
     Case {
         name: "a glyph without tuples before two others, the last of 17 bytes and not filled",
@@ -84,7 +84,7 @@ const CASES: [Case; 3] = [
             0xA0, 0x00, 0x40, 0x00, 0x01, 0x00, 0x01, 0x00, 0x3C, 0x80, 0x00, 0x01, 0x00, 0x0A,
             0x00, 0x07, 0xA0, 0x00, 0x40, 0x00, 0x00, 0x02, 0x32, 0x32, 0x32, 0x83, 0x86,
         ],
-        places: &[36, 36, 52, 69],
+        offsets: &[36, 36, 52, 69],
     },
 ];
 
@@ -116,15 +116,18 @@ fn tables_by_hand(rt: HostRuntime) -> Result<(), Fail> {
         let bytes = table(rt.alloc(), axes, &counts, &glyphs)?;
         assert_eq!(rt; bytes.as_slice(), case.bytes, "{}", case.name);
         for (i, glyph) in case.glyphs.iter().enumerate() {
-            let start = *case.places.get(i).ok_or("no place")?;
-            let end = *case.places.get(i + 1).ok_or("no end")?;
+            let start = *case.offsets.get(i).ok_or("no offset")?;
+            let end = *case.offsets.get(i + 1).ok_or("no end")?;
             let slice = bytes.get(start..end).ok_or("no slice")?;
             let tuples = tuples_of(rt.alloc(), glyph.tuples)?;
-            assert!(rt;
-                reads_back(rt.alloc(), case.axes, glyph.count, tuples.as_slice(), slice)?,
-                "{}",
-                case.name
-            );
+            reads_back(
+                &rt,
+                rt.alloc(),
+                case.axes,
+                glyph.count,
+                tuples.as_slice(),
+                slice,
+            )?;
         }
     }
     Ok(())

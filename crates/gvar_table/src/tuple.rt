@@ -1,5 +1,5 @@
-use fixpoint::Pair;
 use basics::Seq;
+use fixpoint::Pair;
 use region_support::Support;
 
 /// One tuple variation of a glyph, to be written (OpenType, "gvar" and "Tuple variation store").

@@ -119,19 +119,6 @@ start_point points deltas p s (inr over) =
       },
     )
 
-pub point_start : (points deltas : List Pair) (p s : ℕ) → IsStartPoint points deltas p s → IsStart (Reaches points deltas) (length points) p s
-point_start points deltas p s (inl same) = inl same
-point_start points deltas p s (inr over) =
-    let passes = over.2 in
-    inr (record {
-      place = s + over.0;
-      to = s + over.1;
-      after = omega (arith, passes.after);
-      before = omega (arith, passes.before);
-      edge = record { ahead = omega (arith, passes.after, passes.before); within = omega (arith, passes.within); spans = passes.arc };
-      is = passes.over;
-    })
-
 -- the links of a set are steps round the cycle
 pub round_from_links : (points deltas : List Pair) (a : ℕ) (xs : List ℕ) (end : ℕ) → RisesFrom (a + 1) (length points) xs → a < end → end ≤ a + length points → length points ≤ end → Links points deltas a xs end → Round (Reaches points deltas) a xs end
 round_from_links points deltas a [] end rises ahead within whole links = record { ahead = ahead; within = within; spans = links }

@@ -30,11 +30,6 @@ path_last E a b (suc k) path =
 pub path_at : (E : ℕ → ℕ → Type 0) (a b c d k : ℕ) → a ≡ c → b ≡ d → Path E a b k → Path E c d k
 path_at E a b c d k first second path = subst (λ x. Path E c x k) second (subst (λ x. Path E x b k) first path)
 
--- ways are ways of any steps that hold where the first do
-pub path_map : (E F : ℕ → ℕ → Type 0) → ((a b : ℕ) → E a b → F a b) → (a b k : ℕ) → Path E a b k → Path F a b k
-path_map E F each a b zero path = path
-path_map E F each a b (suc k) path = (path.0, each a path.0 path.1, path_map E F each path.0 b k path.2)
-
 -- a way leads ahead, by one step at least where it has one
 pub path_ahead : (E : ℕ → ℕ → Type 0) (n : ℕ) → IsCyclic E n → (a b k : ℕ) → Path E a b k → a + k ≤ b
 path_ahead E n cyclic a b zero path = omega (arith, path)

@@ -3,8 +3,8 @@ ghost use Rattle.variation_rules.specs.FontUnits.{AreFWords};
 ghost use Rattle.iup.specs.Arcs.{IsContour, RisesFrom};
 
 use crate::{arc_holds, infers};
-use fixpoint::Pair;
 use basics::{NoMemory, Seq};
+use fixpoint::Pair;
 use std::alloc::Global;
 use variation_rules::{TupleVariation, filled};
 

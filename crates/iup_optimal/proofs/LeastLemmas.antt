@@ -9,7 +9,7 @@ use Rattle.iup.proofs.Paths.{Round}
 use Rattle.iup.proofs.ArcLemmas.{reaches_cyclic, round_from_links, links_from_round}
 use Rattle.iup.proofs.BoundLemmas.{path_of_set}
 use Rattle.iup_optimal.specs.declared.row.Row.{Row}
-use Rattle.iup_optimal.specs.Rows.{IsRowBack, AreRowsTo, IsLeastLast}
+use Rattle.iup_optimal.specs.Rows.{IsRowBack, AreRowsTo}
 use Rattle.iup_optimal.specs.LeastSets.{AreRightRows, IsLeast}
 use Rattle.iup_optimal.proofs.StartLemmas.{right_rows, bounds_from_rows}
 use Rattle.iup_optimal.specs.Ways.{IsFewest, IsFirstMember, Walks}
@@ -78,9 +78,9 @@ module _ (points deltas : List Pair) (m f : ℕ) (left : List ℕ) (same : lengt
       (least_walk zs (subst (λ w. Walks (Reaches points deltas) left (f + length points) f (w ∷ zs)) here walk))
 
 -- the answer where something moves
-pub answer_is_least : (points deltas : List Pair) (m : ℕ) (set : List ℕ) (rows : List Row) → length deltas ≡ length points → (All (λ delta. delta ≡ still) deltas → ⊥) → IsLeastSet points deltas set → length set ≡ m → AreRowsTo points deltas 0 (length points) rows → IsLeastLast (length points) rows m → IsLeast points deltas (record { points = set; pivot = 0; rows = rows })
-answer_is_least points deltas m set rows same moves least size all last =
-    let right : AreRightRows points deltas (length set) 0 rows = subst (λ k. AreRightRows points deltas k 0 rows) (sym size) (right_rows points deltas 0 m rows same all last) in
+pub answer_is_least : (points deltas : List Pair) (set : List ℕ) (rows : List Row) → length deltas ≡ length points → (All (λ delta. delta ≡ still) deltas → ⊥) → IsLeastSet points deltas set → IsFewest (Reaches points deltas) (length points) (length set) → AreRowsTo points deltas 0 (length points) rows → IsLeast points deltas (record { points = set; pivot = 0; rows = rows })
+answer_is_least points deltas set rows same moves least fewest all =
+    let right : AreRightRows points deltas (length set) 0 rows = right_rows points deltas 0 (length set) rows same all fewest in
     record {
       set = least;
       pivot = refl;

@@ -1,7 +1,11 @@
+pub mod BitLemmas
 pub mod SideLemmas
 pub mod SightLemmas
+pub mod ViewLemmas
 pub mod TableLemmas
 pub mod RowLemmas
 pub mod StartLemmas
 pub mod WayLemmas
 pub mod LeastLemmas
+pub mod RoundLemmas
+pub mod PairLemmas

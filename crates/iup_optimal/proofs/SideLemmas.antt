@@ -1,6 +1,7 @@
 -- What one more point leaves open for the second reference of an arc.
 -- `omega` reads a signed number z as `up z - down z`.
-use Rattle.std.proofs.Common.{◌≡◌, ◌↔◌, ℕ, ℤ, pos, negsuc, ◌+◌, ◌*◌, ◌<◌, ◌*ℤ◌, ◌<ℤ◌, ◌≤ℤ◌, inl, inr, sym, ◌∙◌, ap, ⊎_elim, arith}
+use Rattle.std.proofs.Common.{FitsSigned, to_z-of_z, to_z, of_z, IsTrue, eqb, eqb-true, eq-eqb, ◌≡◌, ◌↔◌, ℕ, ℤ, pos, negsuc, ◌+◌, ◌*◌, ◌<◌, ◌*ℤ◌, ◌<ℤ◌, ◌≤ℤ◌, inl, inr, sym, ◌∙◌, ap, ⊎_elim, arith}
+use Rattle.std.specs.Int.{w64}
 use Rattle.std.proofs.lemmas.Int.{ints, by_lt_z}
 use Rattle.std.proofs.Math.IntN.{*ℤ_comm}
 use Rattle.std.proofs.Math.Nat.{eq_of_mul-eq-mul_right}
@@ -9,6 +10,16 @@ use Rattle.iup_optimal.specs.declared.side.Relative.{Relative}
 use Rattle.iup_optimal.specs.declared.side.Nearest.{Nearest}
 use Rattle.iup_optimal.specs.declared.side.Farthest.{Farthest}
 use Rattle.iup_optimal.specs.Sides.{Collinear, IsNearest, AllowsNear, IsFarthest, AllowsFar}
+
+-- numbers with the same bits are the same, and so the test of bits tells
+pub same_number : (a b : ℤ) → FitsSigned w64 a → FitsSigned w64 b → of_z w64 a ≡ of_z w64 b → a ≡ b
+same_number a b fits also same = sym (to_z-of_z fits) ∙ (ap (λ n. to_z w64 n) same ∙ to_z-of_z also)
+
+pub tests_same : (a b : ℤ) → FitsSigned w64 a → FitsSigned w64 b → IsTrue (eqb (of_z w64 a) (of_z w64 b)) ↔ (a ≡ b)
+tests_same a b fits also = (
+  λ tested. same_number a b fits also (eqb-true (of_z w64 a) (of_z w64 b) tested),
+  λ same. eq-eqb (of_z w64 a) (of_z w64 b) (ap (λ z. of_z w64 z) same),
+)
 
 -- a product by a number that is not negative, in parts
 pub times_pos : (z : ℤ) (k : ℕ) → (up (z *ℤ pos k) ≡ up z * k) × (down (z *ℤ pos k) ≡ down z * k)

@@ -1,10 +1,9 @@
 -- One more point seen from the first reference of an arc, on both sides; and what is seen is what is inferred.
 use Rattle.std.proofs.Common.{◌≡◌, ◌≢◌, ◌↔◌, Bool, IsTrue, ℕ, ℤ, pos, negsuc, neg_ℤ, ◌+◌, ◌*◌, ◌-ℤ◌, ◌*ℤ◌, ◌<ℤ◌, ◌≤ℤ◌, refl, sym, ap, subst, arith}
-use Rattle.std.proofs.lemmas.Int.{ints}
+use Rattle.std.proofs.lemmas.Int.{ints, by_lt_z}
 use borrow.Author.Differences.{up, down, same_in}
 use Rattle.variation_rules.specs.declared.inferred.Reference.{Reference}
-use Rattle.variation_rules.proofs.InferredLemmas.{between_turned, between_inside, step_from_line}
-use Rattle.iup.proofs.BetweenLemmas.{line_from_products}
+use Rattle.variation_rules.proofs.InferredLemmas.{between_turned, between_inside, step_from_line, line_from_products}
 use Rattle.iup_optimal.specs.declared.side.Relative.{Relative}
 use Rattle.iup_optimal.specs.declared.side.Nearest.{Nearest}
 use Rattle.iup_optimal.specs.declared.side.Farthest.{Farthest}
@@ -199,3 +198,15 @@ between_from_follows first second point follows = record {
       let line = line_from_products second.at second.delta first.at first.delta point.at point.delta left right (step_rising first.at first.delta second.at second.delta point.at point.delta left right step) in
       (between_turned first.at first.delta second.at second.delta point.at point.delta (between_inside second.at second.delta first.at first.delta point.at point.delta left right line)).falling left right;
 }
+
+-- where nothing is left open on either side, and neither at the first reference's own coordinate, nothing is admitted
+pub sight_closed : (sight : Sight) → (IsTrue sight.level → ⊥) → (IsTrue sight.still → ⊥) → ((end : Relative) → Allows sight.above end → ⊥) → ((end : Relative) → Allows sight.below end → ⊥) → (end : Reference) → AllowsAt sight (relative_of sight.first end) → ⊥
+sight_closed sight level still above below end admitted =
+    let relative : Relative = relative_of sight.first end in
+    by_lt_z (pos 0) relative.way
+    (λ more. above relative (admitted.above more))
+    (λ not_more. by_lt_z relative.way (pos 0)
+    (λ less. below (turned relative) (admitted.below less))
+    (λ not_less.
+    let here : relative.way ≡ pos 0 = omega (arith, ints) in
+    still (admitted.still here (λ same. level (admitted.level here same)))))

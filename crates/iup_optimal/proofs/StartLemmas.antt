@@ -1,5 +1,5 @@
 -- The starts of a pivot, and the least of their rows.
-use Rattle.std.proofs.Common.{◌≡◌, ℕ, zero, suc, ◌+◌, ◌-◌, ◌%◌, ◌<◌, ◌≤◌, ◌⊎◌, Any, List, [], ◌∷◌, ◌++◌, length, get_or, inl, inr, refl, sym, ◌∙◌, ap, subst, ⊎_elim, arith}
+use Rattle.std.proofs.Common.{◌↔◌, IsTrue, false, Option, Some, None, ◌≡◌, ℕ, zero, suc, ◌+◌, ◌-◌, ◌%◌, ◌<◌, ◌≤◌, ◌⊎◌, Any, List, [], ◌∷◌, ◌++◌, length, get_or, inl, inr, refl, sym, ◌∙◌, ap, subst, ⊎_elim, arith}
 use Rattle.std.proofs.Math.Nat.{add-mod_right, mod-eq_of_lt}
 use Rattle.std.proofs.lemmas.Bool.{cases_lt}
 use Rattle.std.proofs.lemmas.List.{get_or_push, get_or_append_left, get_or-map, length_push, length-map, map-append}
@@ -7,13 +7,14 @@ use Rattle.std.proofs.lemmas.List.Elements.{All-push}
 use Rattle.std.proofs.lemmas.List.Quantifiers.{Any-push}
 use Rattle.fixpoint.specs.declared.plane.Pair.{Pair}
 use Rattle.iup.specs.Arcs.{RisesFrom}
-use Rattle.iup.specs.Bounds.{Path, Reaches, IsLeastRow, IsRightRow, IsStartPoint, Bounds}
-use Rattle.iup.proofs.ArcLemmas.{spans_to, reaches_cyclic, start_point}
+use Rattle.iup.specs.Bounds.{Reaches, IsLeastRow, IsRightRow, IsStartPoint, Bounds}
+use Rattle.iup.proofs.ArcLemmas.{spans_to}
 use Rattle.iup.proofs.SetLemmas.{rises_push, rises_below}
-use Rattle.iup.proofs.Starts.{closed_least}
 use Rattle.iup_optimal.specs.declared.row.Row.{Row}
-use Rattle.iup_optimal.specs.Rows.{AreRowsTo, IsLeastLast, starts_of}
+use Rattle.iup_optimal.specs.Rows.{AreRowsTo, starts_of}
 use Rattle.iup_optimal.specs.Ways.{IsFewest}
+use Rattle.iup_optimal.specs.Tables.{IsNextEnd}
+use Rattle.std.specs.Option.{is_some}
 use Rattle.iup_optimal.specs.LeastSets.{AreRightRows}
 use Rattle.iup_optimal.proofs.RowLemmas.{right_from_least}
 
@@ -92,6 +93,17 @@ step_from_start points deltas p s over inside pivot other none (inr found) =
     (cases_lt (s + j) over) in
     none (s + k) (omega arith) (omega arith) (record { ahead = omega arith; within = omega arith; spans = passes.arc })
 
+-- whether a step leads farther than the pivot tells whether the place is a start
+pub start_tested : (points deltas : List Pair) (p s over : ℕ) (end : Option ℕ) → s < length points → PivotAfter (length points) p s over → (s ≡ p → ⊥) → IsNextEnd points deltas s (over + 1) end → IsTrue (is_some end) ↔ IsStartPoint points deltas p s
+start_tested points deltas p s over None inside pivot other none = (
+  λ (tested : IsTrue false). absurd cc,
+  λ start. absurd (step_from_start points deltas p s over inside pivot other (λ to past within reach. none to (omega arith) reach) start),
+)
+start_tested points deltas p s over (Some to) inside pivot other found = (
+  λ _. start_from_step points deltas p s over to pivot (omega (arith, found.not_before)) found.reach,
+  λ _. refl,
+)
+
 -- some row among one more
 any_more : (P : Row → Type 0) (rows : List Row) (row : Row) → Any P rows → Any P (rows ++ row ∷ [])
 any_more P rows row some =
@@ -115,11 +127,14 @@ rises_at low n (x ∷ xs) zero rises inside = rises.1
 rises_at low n (x ∷ xs) (suc k) rises inside = rises_at (x + 1) n xs k rises.2 (omega arith)
 
 -- so are the starts of rows
-start_below : (n : ℕ) (rows : List Row) (k : ℕ) (row : Row) → RisesFrom 0 n (starts_of rows) → k < length rows → get_or rows k row ≡ row → row.start < n
-start_below n rows k row rises inside is =
-    let at : get_or (starts_of rows) k 0 ≡ row.start = get_or-map (λ (r : Row). r.start) rows k row 0 inside ∙ ap (λ (r : Row). r.start) is in
+start_at : (n : ℕ) (rows : List Row) (k : ℕ) (d : Row) → RisesFrom 0 n (starts_of rows) → k < length rows → (get_or rows k d).start < n
+start_at n rows k d rises inside =
+    let at = get_or-map (λ (r : Row). r.start) rows k d 0 inside in
     let below = rises_at 0 n (starts_of rows) k rises (omega (arith, length-map rows (λ (r : Row). r.start))) in
     omega arith
+
+start_below : (n : ℕ) (rows : List Row) (k : ℕ) (row : Row) → RisesFrom 0 n (starts_of rows) → k < length rows → get_or rows k row ≡ row → row.start < n
+start_below n rows k row rises inside is = subst (λ (r : Row). r.start < n) is (start_at n rows k row rises inside)
 
 -- no rows yet
 pub no_rows : (points deltas : List Pair) (p : ℕ) → AreRowsTo points deltas p 0 []
@@ -168,44 +183,16 @@ rows_skip points deltas p s rows so_far no_start = record {
   least = so_far.least;
 }
 
--- the pivot has a row
-pub some_row : (points deltas : List Pair) (p s : ℕ) (rows : List Row) → p < s → AreRowsTo points deltas p s rows → 0 < length rows
-some_row points deltas p s rows inside so_far =
-    let row = (so_far.starts p inside).1 (inl refl) in
-    let below = row.2 in
-    omega arith
-
--- the least of the last bounds is the fewest steps round
-pub fewest_from_rows : (points deltas : List Pair) (p m : ℕ) (rows : List Row) → length deltas ≡ length points → p < length points → AreRowsTo points deltas p (length points) rows → IsLeastLast (length points) rows m → IsFewest (Reaches points deltas) (length points) m
-fewest_from_rows points deltas p m rows same inside all last =
-    let n = length points in
-    record {
-      reached =
-          let k = last.reached.0 in
-          let row = last.reached.1 in
-          let is = last.reached.3 in
-          let least : IsLeastRow points deltas row.start row.bounds = subst (λ (r : Row). IsLeastRow points deltas r.start r.bounds) is (all.least k row last.reached.2) in (
-            row.start,
-            start_below n rows k row all.rising last.reached.2 is,
-            subst (λ x. Path (Reaches points deltas) row.start (row.start + n) x) last.reached.4 (least.leads n (omega arith)),
-          );
-      least = λ w k below path. closed_least (Reaches points deltas) n (reaches_cyclic points deltas same) p m inside
-          (λ s steps low start round.
-          let found = (all.starts s low).1 (start_point points deltas p s start) in
-          let row = found.1 in
-          let least : IsLeastRow points deltas row.start row.bounds = subst (λ (r : Row). IsLeastRow points deltas r.start r.bounds) found.3 (all.least found.0 row found.2) in
-          let at_most : m ≤ get_or row.bounds n 0 = subst (λ (r : Row). m ≤ get_or r.bounds n 0) found.3 (last.at_most found.0 row found.2) in
-          let bound = least.least n steps (omega arith) (subst (λ x. Path (Reaches points deltas) x (x + n) steps) (sym found.4) round) in
-          omega arith)
-          w k below path;
-    }
-
--- the rows are right for sets of that size
-pub right_rows : (points deltas : List Pair) (p m : ℕ) (rows : List Row) → length deltas ≡ length points → AreRowsTo points deltas p (length points) rows → IsLeastLast (length points) rows m → AreRightRows points deltas m p rows
-right_rows points deltas p m rows same all last = record {
+-- the rows are right for sets of the fewest steps round
+pub right_rows : (points deltas : List Pair) (p m : ℕ) (rows : List Row) → length deltas ≡ length points → AreRowsTo points deltas p (length points) rows → IsFewest (Reaches points deltas) (length points) m → AreRightRows points deltas m p rows
+right_rows points deltas p m rows same all fewest = record {
   rising = all.rising;
   starts = all.starts;
-  right = λ k d inside. right_from_least points deltas m (get_or rows k d).start (get_or rows k d).bounds same (all.least k d inside) (last.at_most k d inside);
+  right = λ k d inside.
+      let row : Row = get_or rows k d in
+      let least : IsLeastRow points deltas row.start row.bounds = all.least k d inside in
+      right_from_least points deltas m row.start row.bounds same least
+      (fewest.least row.start (get_or row.bounds (length points) 0) (start_at (length points) rows k d all.rising inside) (least.leads (length points) (omega arith)));
   least = all.least;
 }
 

@@ -10,10 +10,13 @@ pub record IsLeastWay (E : ℕ → ℕ → Type 0) (from to k : ℕ) : Type 0 wh
   pub leads : Path E from to k
   pub least : (other : ℕ) → Path E from to other → k ≤ other
 
--- the numbers so far are the least from s to each place from it on
-pub record IsRowTo (E : ℕ → ℕ → Type 0) (s : ℕ) (row : List ℕ) : Type 0 where
-  pub each : (b : ℕ) → b < length row → IsLeastWay E s (s + b) (slice_index row b)
-  pub small : (b : ℕ) → b < length row → slice_index row b ≤ b
+-- numbers of steps that lead from s to each place of the round, and no step from a place before b leads on by fewer
+pub record IsRowVia (E : ℕ → ℕ → Type 0) (s n b : ℕ) (row : List ℕ) : Type 0 where
+  pub size : length row ≡ n + 1
+  pub zero_first : slice_index row 0 ≡ 0
+  pub leads : (a : ℕ) → a ≤ n → Path E s (s + a) (slice_index row a)
+  pub small : (a : ℕ) → a ≤ n → slice_index row a ≤ a
+  pub steps : (a c : ℕ) → a < b → a < c → c ≤ n → E (s + a) (s + c) → slice_index row c ≤ slice_index row a + 1
 
 -- the numbers so far are the least to the end from it and each place before it, the nearest first
 pub record IsRowBack (E : ℕ → ℕ → Type 0) (end : ℕ) (row : List ℕ) : Type 0 where
@@ -29,8 +32,3 @@ pub record AreRowsTo (points deltas : List Pair) (p s : ℕ) (rows : List Row) :
   pub rising : RisesFrom 0 s (starts_of rows)
   pub starts : (x : ℕ) → x < s → (Any (λ row. row.start ≡ x) rows ↔ IsStartPoint points deltas p x)
   pub least : All (λ row. IsLeastRow points deltas row.start row.bounds) rows
-
--- the least number at the end of the rows
-pub record IsLeastLast (n : ℕ) (rows : List Row) (m : ℕ) : Type 0 where
-  pub at_most : All (λ row. m ≤ slice_index row.bounds n) rows
-  pub reached : Any (λ row. slice_index row.bounds n ≡ m) rows

@@ -1,6 +1,6 @@
 ghost use Rattle.std.specs.Prelude.{◌≡◌, ℕ, ◌+◌, ◌-◌, ◌<◌, ◌≤◌, IfOk, length};
 ghost use Rattle.iup.specs.Bounds.{IsLeastRow};
-ghost use Rattle.iup_optimal.specs.Rows.{IsLeastWay, IsRowTo, IsRowBack};
+ghost use Rattle.iup_optimal.specs.Rows.{IsLeastWay, IsRowVia, IsRowBack};
 ghost use Rattle.iup_optimal.specs.Steps.{Steps, count};
 
 use crate::table::Table;
@@ -17,46 +17,46 @@ pub struct Row {
     pub bounds: Seq<u32>,
 }
 
-// The least numbers of arcs from a place to each one of the round from it on.
+// The least numbers of arcs from a place to each one of the round from it on. Each arc of the round is
+// looked at once.
 pub fn row_from(alloc: Global, table: &Table<'_>, start: usize) -> Result<Vec<u32>, NoMemory>
     requires { start < count table.now }
     ensures { IfOk result (λ row. IsLeastRow table.now.points.now table.now.deltas.now start row.items) }
 {
     let mut row = Vec::with_capacity(alloc, table.len() + 1)?;
-    row.push(0)?;
-    for to in 1..table.len() + 1 {
-        let fewest = fewest_to(table, start, &row, to);
-        row.push(fewest)?;
+    // The arcs of one point hold.
+    for place in 0..table.len() + 1 {
+        row.push(place as u32)?;
+    }
+    for from in 0..table.len() {
+        shorten(&mut row, table, start, from);
     }
     Ok(row)
 }
 
-// The least number of arcs to one more place.
-fn fewest_to(table: &Table<'_>, start: usize, row: &[u32], to: usize) -> u32
+// The ways that go on from one more place by one arc.
+fn shorten(row: &mut [u32], table: &Table<'_>, start: usize, from: usize)
     requires start { start < count table.now }
-    requires row { IsRowTo (Steps table.now) start row.now }
-    requires to { length row.now ≡ to }
-    requires some { 0 < to }
-    requires within { to ≤ count table.now }
-    ensures fewest { IsLeastWay (Steps table.now) start (start + to) result }
-    ensures small { result ≤ to }
+    requires from { from < count table.now }
+    requires row { IsRowVia (Steps table.now) start (count table.now) from row.old }
+    ensures row { IsRowVia (Steps table.now) start (count table.now) (from + 1) row.new }
 {
-    let mut fewest = row[to - 1] + 1;
-    for from in 0..to {
-        // A way through a place after the start has two arcs at least.
-        if fewest <= 2 && 0 < from {
-            return fewest;
+    let through = row[from] + 1;
+    let mut low = from + 1;
+    while let Some(end) = table.next_end(start + from, start + low) {
+        let to = end - start;
+        if row.len() <= to {
+            return;
         }
-        let through = row[from] + 1;
-        if through < fewest && table.reaches(start + from, start + to) {
-            fewest = through;
+        if through < row[to] {
+            row[to] = through;
         }
+        low = to + 1;
     }
-    fewest
 }
 
 // The least numbers of arcs to an end, which is one round or more on, from it and from each place of the
-// round before it, the nearest first.
+// round before it, the nearest first. Each arc of the round is looked at once.
 pub fn row_back(alloc: Global, table: &Table<'_>, end: usize) -> Result<Vec<u32>, NoMemory>
     requires low { count table.now ≤ end }
     requires high { end < count table.now + count table.now }
@@ -83,15 +83,16 @@ fn fewest_back(table: &Table<'_>, end: usize, row: &[u32], back: usize) -> u32
     ensures fewest { IsLeastWay (Steps table.now) (end - back) end result }
     ensures small { result ≤ back }
 {
+    let from = end - back;
+    // The arc of one point holds.
     let mut fewest = row[back - 1] + 1;
-    for nearer in 0..back {
-        if fewest <= 2 && 0 < nearer {
+    let mut low = from + 2;
+    while let Some(to) = table.next_end(from, low) {
+        if end < to {
             return fewest;
         }
-        let through = row[nearer] + 1;
-        if through < fewest && table.reaches(end - back, end - nearer) {
-            fewest = through;
-        }
+        fewest = fewest.min(row[end - to] + 1);
+        low = to + 1;
     }
     fewest
 }

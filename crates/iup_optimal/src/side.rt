@@ -1,3 +1,32 @@
+//! What the points seen after the first reference of an arc leave open for the second one, on one side of
+//! the first, in one coordinate.
+//!
+//! A point is told by its way from the first reference and by its step, how much more it moves. Where `E`
+//! is the second reference, each point between the two in the contour has to be inferred from them:
+//!
+//! ```text
+//!   step
+//!    |                         E . . . . . .   at E and beyond: the step of E
+//!    |                    , '
+//!    |              N , '                      before E: on the line to E
+//!    |         , '
+//!    |    , '
+//!  --0-------------------------------------> way
+//!    behind: the step 0
+//! ```
+//!
+//! So two pairs of numbers tell which ends are left, however many points were seen:
+//!
+//! - The points before `E` lie on one line through the first reference. The nearest point `N` of all fixes
+//!   that line, and the least way of a point off it, `off`, bounds `E`: `E` lies at or before `N`, or on the
+//!   line of `N` and not beyond `off`.
+//! - The points at `E` and beyond have one step. The farthest point `F` of all fixes it, and the greatest
+//!   way of a point with another step, `torn`, bounds `E` from the other end: `E` lies beyond `F`, or has
+//!   the step of `F` and lies beyond `torn`.
+//!
+//! One more point takes the place of `N` or `F`, or lowers `off` or raises `torn`, or says nothing new. Where
+//! `off` is no greater than `torn` no end is left, and none ever will be.
+
 ghost use Rattle.std.specs.Prelude.{◌≡◌, ℤ, pos, ◌<ℤ◌, ◌≤ℤ◌, ◌-ℤ◌, ◌*ℤ◌, ◌↔◌, IsTrue};
 ghost use Rattle.variation_rules.specs.FontUnits.{IsReference};
 ghost use Rattle.iup_optimal.specs.Sides.{Collinear, IsSpan, IsRelative, Follows, IsNearest, AllowsNear, IsFarthest, AllowsFar, IsSide, Allows, turned};
@@ -33,7 +62,7 @@ pub struct Farthest {
 }
 
 /// What the points seen so far leave open for the second reference of an arc, on the side of positive
-/// ways. One more point is taken in, and an end is tested, in a few steps, however many were seen.
+/// ways. One more point is taken in, and an end is tested, in a few steps.
 #[derive(Clone, Copy)]
 pub struct Side {
     level_behind: bool,
@@ -76,30 +105,8 @@ impl Relative {
         requires other { IsRelative other }
         ensures { IsTrue result ↔ Collinear self other }
     {
-        is_same(times(self.step, other.way), times(self.way, other.step))
+        self.step * other.way == self.way * other.step
     }
-}
-
-fn times(a: i64, b: i64) -> i64
-    requires a { IsSpan a }
-    requires b { IsSpan b }
-    ensures { result ≡ a *ℤ b }
-{
-    a * b
-}
-
-/// Whether two numbers are equal.
-pub fn is_same(a: i64, b: i64) -> bool
-    ensures { IsTrue result ↔ (a ≡ b) }
-{
-    a == b
-}
-
-/// Whether both hold.
-pub fn both(first: bool, second: bool) -> bool
-    ensures { IsTrue result ↔ (IsTrue first × IsTrue second) }
-{
-    first && second
 }
 
 impl Nearest {
@@ -157,7 +164,7 @@ impl Farthest {
         ensures farthest { IsFarthest result }
         ensures allows { (end : Relative) → (AllowsFar result end ↔ (AllowsFar self end × (end.way ≤ℤ point.way → point.step ≡ end.step))) }
     {
-        if is_same(point.step, self.at.step) {
+        if point.step == self.at.step {
             if self.at.way < point.way {
                 Farthest {
                     at: point,
@@ -187,7 +194,7 @@ impl Farthest {
         if self.at.way < end.way {
             true
         } else if self.torn < end.way {
-            is_same(self.at.step, end.step)
+            self.at.step == end.step
         } else {
             false
         }
@@ -214,33 +221,37 @@ impl Side {
     }
 
     /// One more point is seen.
-    pub fn seeing(self, point: Relative) -> Side
-        requires side { IsSide self }
+    pub fn see(&mut self, point: Relative)
+        requires side { IsSide self.old }
         requires point { IsRelative point }
-        ensures side { IsSide result }
-        ensures allows { (end : Relative) → pos 0 <ℤ end.way → (Allows result end ↔ (Allows self end × Follows end point)) }
+        ensures side { IsSide self.new }
+        ensures allows { (end : Relative) → pos 0 <ℤ end.way → (Allows self.new end ↔ (Allows self.old end × Follows end point)) }
     {
         if point.way <= 0 {
-            Side {
-                level_behind: both(self.level_behind, is_same(point.step, 0)),
-                nearest: self.nearest,
-                farthest: self.farthest,
-            }
+            let level_behind = self.level_behind && point.step == 0;
+            self.level_behind = level_behind;
         } else {
-            Side {
-                level_behind: self.level_behind,
-                nearest: self.nearest.seeing(point),
-                farthest: self.farthest.seeing(point),
-            }
+            self.nearest = self.nearest.seeing(point);
+            self.farthest = self.farthest.seeing(point);
         }
     }
 
     /// Whether all points seen follow from the first reference and this second one.
-    pub fn allows(self, end: Relative) -> bool
-        requires side { IsSide self }
+    pub fn allows(&self, end: Relative) -> bool
+        requires side { IsSide self.now }
         requires end { IsRelative end }
-        ensures { IsTrue result ↔ Allows self end }
+        ensures { IsTrue result ↔ Allows self.now end }
     {
         self.level_behind && self.nearest.allows(end) && self.farthest.allows(end)
+    }
+
+    /// Whether no second reference is left open: some point at or before the first one moves otherwise, or
+    /// the first point off the nearest one's line is no farther than the last one that moves otherwise
+    /// than the farthest. What is closed stays closed, since each point seen leaves less open.
+    pub fn is_closed(&self) -> bool
+        requires { IsSide self.now }
+        ensures { IsTrue result → (end : Relative) → Allows self.now end → ⊥ }
+    {
+        !self.level_behind || self.nearest.off <= self.farthest.torn
     }
 }

@@ -1,9 +1,19 @@
+//! What the points seen after the first reference of an arc leave open for the second one, in one
+//! coordinate: on the side of greater coordinates and on that of smaller ones, which mirror one another,
+//! and at the first reference's own coordinate, where all points move as it does, or none moves.
+//!
+//! ```text
+//!      below (turned)            above
+//!   <------------------- first ------------------->  coordinate
+//!                    level, still
+//! ```
+
 ghost use Rattle.std.specs.Prelude.{◌≡◌, ℤ, ◌↔◌, IsTrue};
 ghost use Rattle.variation_rules.specs.FontUnits.{IsReference};
 ghost use Rattle.iup_optimal.specs.Sides.{IsSight, Admits, BetweenThem};
 ghost use Rattle.variation_rules.specs.declared.inferred.Reference.{Reference};
 
-use crate::side::{Relative, Side, both, is_same};
+use crate::side::{Relative, Side};
 use variation_rules::Reference;
 
 /// What the points seen so far after the first reference of an arc leave open for the second one, in one
@@ -37,38 +47,48 @@ impl Sight {
     }
 
     /// One more point is seen.
-    pub fn seeing(self, point: Reference) -> Sight
-        requires sight { IsSight self }
+    pub fn see(&mut self, point: Reference)
+        requires sight { IsSight self.old }
         requires point { IsReference point }
-        ensures sight { IsSight result }
-        ensures first { result.first ≡ self.first }
-        ensures admits { (end : Reference) → (Admits result end ↔ (Admits self end × BetweenThem self.first end point)) }
+        ensures sight { IsSight self.new }
+        ensures first { self.new.first ≡ self.old.first }
+        ensures admits { (end : Reference) → (Admits self.new end ↔ (Admits self.old end × BetweenThem self.old.first end point)) }
     {
         let relative = Relative::between(self.first, point);
-        Sight {
-            first: self.first,
-            level: both(self.level, is_same(relative.step, 0)),
-            still: both(self.still, is_same(point.delta, 0)),
-            above: self.above.seeing(relative),
-            below: self.below.seeing(relative.turned()),
-        }
+        let level = self.level && relative.step == 0;
+        let still = self.still && point.delta == 0;
+        self.level = level;
+        self.still = still;
+        self.above.see(relative);
+        self.below.see(relative.turned());
     }
 
     /// Whether all points seen are inferred from the first reference and this second one.
-    pub fn admits(self, end: Reference) -> bool
-        requires sight { IsSight self }
+    pub fn admits(&self, end: Reference) -> bool
+        requires sight { IsSight self.now }
         requires end { IsReference end }
-        ensures { IsTrue result ↔ Admits self end }
+        ensures { IsTrue result ↔ Admits self.now end }
     {
         let relative = Relative::between(self.first, end);
         if 0 < relative.way {
             self.above.allows(relative)
         } else if relative.way < 0 {
             self.below.allows(relative.turned())
-        } else if is_same(relative.step, 0) {
+        } else if relative.step == 0 {
             self.level
         } else {
             self.still
         }
+    }
+
+    /// Whether no second reference is left open, after these points and after any more.
+    pub fn is_closed(&self) -> bool
+        requires { IsSight self.now }
+        ensures { IsTrue result → (end : Reference) → Admits self.now end → ⊥ }
+    {
+        if self.level || self.still {
+            return false;
+        }
+        self.above.is_closed() && self.below.is_closed()
     }
 }

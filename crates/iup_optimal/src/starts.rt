@@ -1,6 +1,6 @@
 ghost use Rattle.std.specs.Prelude.{◌≡◌, ℕ, ◌+◌, ◌<◌, ◌≤◌, ◌↔◌, All, IsTrue, IfOk, length};
 ghost use Rattle.iup.specs.Bounds.{IsStartPoint};
-ghost use Rattle.iup_optimal.specs.Rows.{AreRowsTo, IsLeastLast};
+ghost use Rattle.iup_optimal.specs.Rows.{AreRowsTo};
 ghost use Rattle.iup_optimal.specs.Steps.{count};
 ghost use Rattle.iup_optimal.specs.declared.row.Row.{Row};
 
@@ -23,12 +23,7 @@ pub fn is_start(table: &Table<'_>, pivot: usize, point: usize) -> bool
     } else {
         pivot + table.len()
     };
-    for to in over + 1..point + table.len() + 1 {
-        if table.reaches(point, to) {
-            return true;
-        }
-    }
-    false
+    table.next_end(point, over + 1).is_some()
 }
 
 /// The rows of all starts, rising.
@@ -49,18 +44,33 @@ pub fn rows_of_starts(alloc: Global, table: &Table<'_>, pivot: usize) -> Result<
     Ok(rows)
 }
 
-/// The least number of arcs that lead once round, by the rows of a contour of so many points.
-pub fn least_last(rows: &[Row], count: usize) -> u32
-    requires some { 0 < length rows.now }
-    requires size { All (λ (row : Row). length row.bounds ≡ count + 1) rows.now }
-    ensures { IsLeastLast count rows.now result }
+/// A point over which no arc passes, if there is one, and else the first: where the starts are fewest the
+/// least work is left. The choice changes the time alone.
+pub fn best_pivot(table: &Table<'_>) -> usize
+    ensures { result < count table.now }
 {
-    let mut fewest = rows[0].bounds.as_slice()[count];
-    for row in rows {
-        let last = row.bounds.as_slice()[count];
-        if last < fewest {
-            fewest = last;
+    let count = table.len();
+    // How far the arcs from the places before lead.
+    let mut farthest = 0;
+    for place in 0..count + count {
+        if count <= place && farthest <= place {
+            return place - count;
         }
+        farthest = farthest_from(table, place, farthest.max(place));
     }
-    fewest
+    0
+}
+
+// How far the arcs from a place lead, or those so far.
+fn farthest_from(table: &Table<'_>, place: usize, so_far: usize) -> usize
+    requires rounds { place < count table.now + count table.now }
+    requires ahead { place ≤ so_far }
+    requires within { so_far ≤ place + count table.now }
+    ensures { result ≤ place + count table.now }
+{
+    let mut farthest = so_far;
+    while let Some(end) = table.next_end(place, farthest + 1) {
+        farthest = end;
+    }
+    farthest
 }

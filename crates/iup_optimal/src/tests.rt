@@ -2,11 +2,13 @@ ghost use Rattle.std.specs.Prelude.{◌≡◌, ℕ, ◌<◌, ◌≤◌, All, IfO
 ghost use Rattle.variation_rules.specs.FontUnits.{AreFWords};
 ghost use Rattle.iup.specs.Arcs.{IsContour, RisesFrom};
 
-use crate::{Least, least};
+use crate::{Least, least, least_points};
+use basics::NoMemory;
 use fixpoint::Pair;
 use iup::infers;
-use basics::NoMemory;
 use std::alloc::Global;
+use std::process::Abort;
+use std::test::Fail;
 
 // A point and its delta, in x and in y.
 type Moved = ((i16, i16), (i16, i16));
@@ -43,16 +45,16 @@ fn least_of(alloc: Global, moved: &[Moved]) -> Result<Option<Least>, NoMemory> {
     Ok(Some(least(alloc, &points, &deltas)?))
 }
 
-// Whether the least set of a contour is this.
-fn is_least(alloc: Global, moved: &[Moved], points: &[u32]) -> bool {
-    match least_of(alloc, moved) {
-        Ok(Some(least)) => least.points.as_slice() == points && least.pivot == 0,
-        _ => false,
-    }
+// The least set of a contour is this.
+fn check_set(rt: &impl Abort, alloc: Global, moved: &[Moved], points: &[u32]) -> Result<(), Fail> {
+    let least = least_of(alloc, moved)?.ok_or("no contour")?;
+    assert_eq!(rt; least.points.as_slice(), points);
+    assert_eq!(rt; least.pivot, 0);
+    Ok(())
 }
 
 #[test]
-fn sets_by_hand(rt: HostRuntime) {
+fn sets_by_hand(rt: HostRuntime) -> Result<(), Fail> {
     let alloc = rt.alloc();
     let square = [
         ((0, 0), (0, 0)),
@@ -60,21 +62,21 @@ fn sets_by_hand(rt: HostRuntime) {
         ((100, 100), (50, 0)),
         ((0, 100), (0, 0)),
     ];
-    assert!(rt; is_least(alloc, &square, &[0, 1]));
+    check_set(&rt, alloc, &square, &[0, 1])?;
     let shifted = [
         ((0, 0), (10, 0)),
         ((100, 0), (10, 0)),
         ((100, 100), (10, 0)),
         ((0, 100), (10, 0)),
     ];
-    assert!(rt; is_least(alloc, &shifted, &[0]));
+    check_set(&rt, alloc, &shifted, &[0])?;
     let stem = [
         ((0, 0), (5, 0)),
         ((0, 50), (6, 0)),
         ((0, 100), (7, 0)),
         ((200, 50), (0, 0)),
     ];
-    assert!(rt; is_least(alloc, &stem, &[0, 1, 2]));
+    check_set(&rt, alloc, &stem, &[0, 1, 2])?;
     // No set of two has the first point.
     let house = [
         ((50, 0), (25, 0)),
@@ -83,7 +85,7 @@ fn sets_by_hand(rt: HostRuntime) {
         ((0, 100), (0, 0)),
         ((0, 0), (0, 0)),
     ];
-    assert!(rt; is_least(alloc, &house, &[1, 3]));
+    check_set(&rt, alloc, &house, &[1, 3])?;
     // An arc of the set holds where a shorter one from the same point doesn't.
     let bent = [
         ((0, 0), (0, 0)),
@@ -91,15 +93,16 @@ fn sets_by_hand(rt: HostRuntime) {
         ((200, 0), (10, 0)),
         ((100, 0), (10, 0)),
     ];
-    assert!(rt; is_least(alloc, &bent, &[0, 3]));
+    check_set(&rt, alloc, &bent, &[0, 3])?;
     let still = [((0, 0), (0, 0)), ((7, 9), (0, 0))];
-    assert!(rt; is_least(alloc, &still, &[]));
-    assert!(rt; is_least(alloc, &[((3, 4), (0, 1))], &[0]));
+    check_set(&rt, alloc, &still, &[])?;
+    check_set(&rt, alloc, &[((3, 4), (0, 1))], &[0])?;
+    Ok(())
 }
 
 // A bowl of a real font: 12 of its 16 points.
 #[test]
-fn bowl_of_a_font(rt: HostRuntime) {
+fn bowl_of_a_font(rt: HostRuntime) -> Result<(), Fail> {
     let bowl = [
         ((523, 38), (32, 250)),
         ((626, 38), (-30, 250)),
@@ -118,30 +121,29 @@ fn bowl_of_a_font(rt: HostRuntime) {
         ((251, 139), (194, 189)),
         ((420, 38), (94, 250)),
     ];
-    match least_of(rt.alloc(), &bowl) {
-        Ok(Some(least)) => assert_eq!(rt; least.points.len(), 12),
-        _ => assert!(rt; false),
-    }
+    let least = least_of(rt.alloc(), &bowl)?.ok_or("no contour")?;
+    assert_eq!(rt; least.points.len(), 12);
+    Ok(())
 }
 
-// Whether the rows of a contour are these, each with its start.
-fn has_rows(alloc: Global, moved: &[Moved], rows: &[(u32, &[u32])]) -> bool {
-    let Ok(Some(least)) = least_of(alloc, moved) else {
-        return false;
-    };
-    if least.rows.len() != rows.len() {
-        return false;
-    }
+// The rows of a contour are these, each with its start.
+fn check_rows(
+    rt: &impl Abort,
+    alloc: Global,
+    moved: &[Moved],
+    rows: &[(u32, &[u32])],
+) -> Result<(), Fail> {
+    let least = least_of(alloc, moved)?.ok_or("no contour")?;
+    assert_eq!(rt; least.rows.len(), rows.len());
     for (row, (start, bounds)) in least.rows.as_slice().iter().zip(rows) {
-        if row.start != *start || row.bounds.as_slice() != *bounds {
-            return false;
-        }
+        assert_eq!(rt; row.start, *start);
+        assert_eq!(rt; row.bounds.as_slice(), *bounds);
     }
-    true
+    Ok(())
 }
 
 #[test]
-fn rows_by_hand(rt: HostRuntime) {
+fn rows_by_hand(rt: HostRuntime) -> Result<(), Fail> {
     let alloc = rt.alloc();
     let square = [
         ((0, 0), (0, 0)),
@@ -149,18 +151,15 @@ fn rows_by_hand(rt: HostRuntime) {
         ((100, 100), (50, 0)),
         ((0, 100), (0, 0)),
     ];
-    assert!(rt;
-        has_rows(
-            alloc,
-            &square,
-            &[(0, &[0, 1, 1, 2, 2]), (3, &[0, 1, 1, 1, 2])]
-        )
-    );
-    assert!(rt; has_rows(alloc, &[((3, 4), (0, 1))], &[(0, &[0, 1])]));
+    let rows: [(u32, &[u32]); 2] = [(0, &[0, 1, 1, 2, 2]), (3, &[0, 1, 1, 1, 2])];
+    check_rows(&rt, alloc, &square, &rows)?;
+    check_rows(&rt, alloc, &[((3, 4), (0, 1))], &[(0, &[0, 1])])?;
     // Where all move alike every arc holds, and each point is a start.
     let shifted = [((0, 0), (1, 0)), ((5, 0), (1, 0))];
-    assert!(rt; has_rows(alloc, &shifted, &[(0, &[0, 1, 1]), (1, &[0, 1, 1])]));
-    assert!(rt; has_rows(alloc, &[((3, 4), (0, 0))], &[]));
+    let rows: [(u32, &[u32]); 2] = [(0, &[0, 1, 1]), (1, &[0, 1, 1])];
+    check_rows(&rt, alloc, &shifted, &rows)?;
+    check_rows(&rt, alloc, &[((3, 4), (0, 0))], &[])?;
+    Ok(())
 }
 
 // The points of a mask.
@@ -194,7 +193,7 @@ fn least_of_all(alloc: Global, points: &[Pair], deltas: &[Pair]) -> Result<Vec<u
     Ok(best)
 }
 
-// Whether the search agrees on a contour of so many points, whose coordinates and deltas are the digits
+// Whether both searches agree on a contour of so many points, whose coordinates and deltas are the digits
 // of a number: 0, 1 or 2 each.
 fn agrees(alloc: Global, count: usize, code: u32) -> Result<bool, NoMemory> {
     let mut moved = Vec::new(alloc);
@@ -210,8 +209,9 @@ fn agrees(alloc: Global, count: usize, code: u32) -> Result<bool, NoMemory> {
     }
     let (points, deltas) = contour(alloc, &moved)?;
     let found = least(alloc, &points, &deltas)?;
+    let alone = least_points(alloc, &points, &deltas)?;
     let wanted = least_of_all(alloc, &points, &deltas)?;
-    Ok(found.points.as_slice() == wanted.as_slice())
+    Ok(found.points.as_slice() == wanted.as_slice() && alone.as_slice() == wanted.as_slice())
 }
 
 // The first contour on which it doesn't.
@@ -222,6 +222,7 @@ fn first_wrong(alloc: Global) -> Result<Option<(usize, u32)>, NoMemory> {
         (3, 1, 729),
         (4, 7, 6561),
         (6, 997, 531_441),
+        (9, 3_874_204, 387_420_489),
     ] {
         for number in 0..1000 {
             let code = number * step;

@@ -2,41 +2,25 @@ ghost use Rattle.std.specs.Prelude.{◌≡◌, ℕ, ◌+◌, ◌<◌, ◌≤◌,
 ghost use Rattle.variation_rules.specs.InferredDelta.{still};
 ghost use Rattle.iup.specs.Arcs.{IsLeastSet};
 ghost use Rattle.iup_optimal.specs.Rows.{IsRowBack};
+ghost use Rattle.iup_optimal.specs.Rounds.{AreBest};
 ghost use Rattle.iup_optimal.specs.Steps.{Steps, count};
-ghost use Rattle.iup_optimal.specs.Ways.{IsFewest, IsFirstMember, IsNext, Walks};
+ghost use Rattle.iup_optimal.specs.Ways.{IsNext, Walks};
 
-use crate::row::{row_back, row_from};
+use crate::rounds::Rounds;
+use crate::row::row_back;
 use crate::table::Table;
 use basics::NoMemory;
 use std::alloc::Global;
 
-/// The least set of a contour, where the least number of arcs that lead round it is known.
-pub fn least_set(alloc: Global, table: &Table<'_>, size: u32) -> Result<Vec<u32>, NoMemory>
+/// The least set of a contour, where its shortest ways round are known.
+pub fn least_set(alloc: Global, table: &Table<'_>, rounds: Rounds) -> Result<Vec<u32>, NoMemory>
     requires moves { All (λ delta. delta ≡ still) table.now.deltas.now → ⊥ }
-    requires size { IsFewest (Steps table.now) (count table.now) size }
+    requires best { AreBest (Steps table.now) (count table.now) rounds }
     ensures set { IfOk result (λ set. IsLeastSet table.now.points.now table.now.deltas.now set.items) }
-    ensures size { IfOk result (λ set. length set.items ≡ size) }
+    ensures size { IfOk result (λ set. length set.items ≡ rounds.size) }
 {
-    let first = first_member(alloc, table, size)?;
-    let left = row_back(alloc, table, first + table.len())?;
-    let points = walk(alloc, table, first, &left)?;
-    Ok(points)
-}
-
-// The first point from which so many arcs lead round.
-fn first_member(alloc: Global, table: &Table<'_>, size: u32) -> Result<usize, NoMemory>
-    requires { IsFewest (Steps table.now) (count table.now) size }
-    ensures { IfOk result (λ first. IsFirstMember (Steps table.now) (count table.now) size first) }
-{
-    // Some point is one, so the last where none before it is.
-    let last = table.len() - 1;
-    for point in 0..last {
-        let row = row_from(alloc, table, point)?;
-        if row[table.len()] == size {
-            return Ok(point);
-        }
-    }
-    Ok(last)
+    let left = row_back(alloc, table, rounds.first + table.len())?;
+    walk(alloc, table, rounds.first, &left)
 }
 
 // The points of the fewest arcs round from the first member, each as near as it can be.

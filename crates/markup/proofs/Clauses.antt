@@ -9,8 +9,8 @@ use Rattle.markup_rules.specs.Tree.{Tree}
 use Rattle.markup_rules.specs.Syntax.{IsTree}
 use Rattle.markup_rules.specs.Faults.{fault_of}
 use Rattle.markup_rules.specs.Outcome.{outcome}
-use Rattle.markup_rules.proofs.Found.{tree_takes}
-use Rattle.markup_rules.proofs.Whole.{tree_again}
+use Rattle.markup_rules.proofs.SoundTexts.{tree_takes}
+use Rattle.markup_rules.proofs.CompleteTexts.{tree_again}
 use Rattle.markup_rules.proofs.FaultLaw.{fault_takes, fault_again}
 use Rattle.markup.specs.declared.element.Element.{Element}
 use Rattle.markup.specs.Plain.{plain}

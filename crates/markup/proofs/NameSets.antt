@@ -1,6 +1,5 @@
 -- A set of names and one name more.
 use Rattle.std.proofs.Common.{◌≡◌, ℕ, Bool, true, false, cond, ◌||◌, List, [], ◌∷◌, ◌++◌, Some, refl, sym, ap, ◌∙◌}
-use Rattle.std.specs.Borrow.{Bor}
 use Rattle.std.specs.Bool.{OnFalse}
 use Rattle.std.specs.List.{list_any}
 use Rattle.std.specs.Str.{bytes_eq}
@@ -34,18 +33,18 @@ or_last true = refl
 or_last false = refl
 
 abbrev Set : Type 0
-Set = BTreeSet (Bor (List ℕ))
+Set = BTreeSet (List ℕ)
 
-added : (old new : Set) (names : List (List ℕ)) (key : Bor (List ℕ)) → HasNames (Some old) names → Updates text_cmp old new key true → HasNames (Some new) (names ++ key.now ∷ [])
+pub added : (old new : Set) (names : List (List ℕ)) (key : List ℕ) → HasNames (Some old) names → Updates text_cmp old new key true → HasNames (Some new) (names ++ key ∷ [])
 added old new names key has updates name =
     updates.0 name
-    ∙ (ap (λ same. cond same true (contains text_cmp old name)) (is_eq-slice_cmp key.now name.now ∙ bytes_eq-swapped name.now key.now)
-    ∙ (or_first (bytes_eq name.now key.now) (contains text_cmp old name)
-    ∙ (ap (λ b. b || bytes_eq name.now key.now) (has name)
-    ∙ (ap (λ b. list_any (bytes_eq name.now) names || b) (sym (or_last (bytes_eq name.now key.now)))
-    ∙ sym (list_any-append (bytes_eq name.now) names (key.now ∷ []))))))
+    ∙ (ap (λ same. cond same true (contains text_cmp old name)) (is_eq-slice_cmp key name ∙ bytes_eq-swapped name key)
+    ∙ (or_first (bytes_eq name key) (contains text_cmp old name)
+    ∙ (ap (λ b. b || bytes_eq name key) (has name)
+    ∙ (ap (λ b. list_any (bytes_eq name) names || b) (sym (or_last (bytes_eq name key)))
+    ∙ sym (list_any-append (bytes_eq name) names (key ∷ []))))))
 
-pub names_after : (old new : Set) (names : List (List ℕ)) (key : Bor (List ℕ)) (first : Bool) → HasNames (Some old) names
-    → Updates text_cmp old new key true → OnFalse first (IsUnchanged old new) → HasNames (Some new) (cond first (names ++ key.now ∷ []) names)
+pub names_after : (old new : Set) (names : List (List ℕ)) (key : List ℕ) (first : Bool) → HasNames (Some old) names
+    → Updates text_cmp old new key true → OnFalse first (IsUnchanged old new) → HasNames (Some new) (cond first (names ++ key ∷ []) names)
 names_after old new names key true has updates same = added old new names key has updates
 names_after old new names key false has updates same = λ name. ap (λ keys. list_any (λ k. is_eq (text_cmp name k)) keys) same ∙ has name

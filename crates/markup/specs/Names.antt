@@ -1,6 +1,5 @@
 -- The names of attributes that are looked up, where there may be many.
 use Rattle.std.specs.Prelude.{◌≡◌, ℕ, List, Option, None, Some}
-use Rattle.std.specs.Borrow.{Bor}
 use Rattle.std.specs.List.{list_any}
 use Rattle.std.specs.Str.{bytes_eq}
 use Rattle.std.specs.declared.cmp.Ordering.{Ordering}
@@ -8,10 +7,10 @@ use Rattle.std.specs.Ordering.{nat_cmp}
 use Rattle.std.specs.Cmp.Lexicographic.{slice_cmp}
 use Rattle.std.specs.BTreeSet.{BTreeSet, contains}
 
-abbrev pub text_cmp : Bor (List ℕ) → Bor (List ℕ) → Ordering
-text_cmp x y = slice_cmp nat_cmp x.now y.now
+abbrev pub text_cmp : List ℕ → List ℕ → Ordering
+text_cmp = slice_cmp nat_cmp
 
 -- the set, where there is one, has these names and no others
-abbrev pub HasNames : Option (BTreeSet (Bor (List ℕ))) → List (List ℕ) → Type 0
+abbrev pub HasNames : Option (BTreeSet (List ℕ)) → List (List ℕ) → Type 0
 HasNames None names = Unit {0}
-HasNames (Some set) names = (name : Bor (List ℕ)) → contains text_cmp set name ≡ list_any (bytes_eq name.now) names
+HasNames (Some set) names = (name : List ℕ) → contains text_cmp set name ≡ list_any (bytes_eq name) names

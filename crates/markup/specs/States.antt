@@ -21,7 +21,7 @@ frames_of (Some innermost) outer = frame_of innermost ∷ reverse (map frame_of 
 abbrev pub state_of : State → rules.State
 state_of s = record { frames = frames_of s.innermost s.outer.items; root = option_map plain s.root; declared = s.is_declared }
 
--- the item at the front of what is left of a text
+-- the item at the start of what is left of a text
 abbrev pub entry_of : List ℕ → Item → Entry
 entry_of rest item = record { left = length rest; opening = opens rest; item = item }
 

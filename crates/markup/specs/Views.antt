@@ -1,5 +1,9 @@
 -- What the values that code holds stand for.
-use Rattle.std.specs.Prelude.{ℕ, List, encode_utf8, string_bytes}
+use Rattle.std.specs.Prelude.{ℕ, Bool, not, ◌==◌, ◌&&◌, List, Option, Some, None, encode_utf8, string_bytes, if◌then◌else◌}
+use Rattle.std.specs.Char.{is_ascii}
+use Rattle.std.specs.Str.{is_utf8}
+use Rattle.std.specs.List.{list_all}
+use Rattle.markup_rules.specs.Bytes.{is_literal}
 use Rattle.markup.specs.declared.attributes.Attribute.{Attribute}
 use Rattle.markup_rules.specs.Reading as rules
 use Rattle.markup_rules.specs.Reading.{comment, instruction, declaration, tag, broken, unended, data_between, data_to_end}
@@ -13,6 +17,19 @@ use Rattle.markup.specs.declared.text.Piece.{Piece}
 use Rattle.markup.specs.declared.text.Piece.TheVariants.{Run, Character}
 use Rattle.markup.specs.declared.text.Text.{Text}
 use Rattle.markup.specs.declared.text.Text.TheVariants.{Borrowed, Owned}
+use Rattle.basics.specs.Bytes.{is_blank}
+
+-- the bytes, if they are UTF-8
+abbrev pub utf8_of : List ℕ → Option (List ℕ)
+utf8_of bytes = if is_utf8 bytes then Some bytes else None
+
+-- a byte of ASCII that stands for itself in content
+abbrev pub is_plain_ascii : ℕ → Bool
+is_plain_ascii b = is_literal b && is_ascii b
+
+-- and that is no quote
+abbrev pub is_unquoted : ℕ → Bool
+is_unquoted b = is_plain_ascii b && (not (b == 34) && not (b == 39))
 
 abbrev pub piece_bytes : Piece → List ℕ
 piece_bytes (Run text) = text.now
@@ -44,5 +61,5 @@ markup_view (Empty opening) = empty (opening_view opening)
 markup_view (Finish name) = finish name.now
 markup_view Aside = aside
 markup_view Doctype = doctype
-markup_view (Content is_blank text) = content is_blank (text_bytes text)
+markup_view (Content bytes text) = content (list_all is_blank bytes.now) (text_bytes text)
 markup_view Bad = bad

@@ -1,24 +1,26 @@
-ghost use Rattle.std.specs.Prelude.{◌≡◌, ◌++◌, [], ◌∷◌, map, not, IfOk, OnOk, option_map, if◌then◌else◌};
+ghost use Rattle.std.specs.Prelude.{◌≡◌, ◌++◌, [], ◌∷◌, Some, map, not, ◌==◌, ◌||◌, IfOk, IfSome, OnOk, option_map, if◌then◌else◌};
 ghost use Rattle.std.specs.List.{list_any};
 ghost use Rattle.std.specs.Str.{bytes_eq};
 ghost use Rattle.markup_rules.specs.Syntax.{firsts};
 ghost use Rattle.markup_rules.specs.Reading as rules;
 ghost use Rattle.markup_rules.proofs.Attributes.{names_of, with_attribute};
 ghost use Rattle.markup.specs.Names.{HasNames};
+ghost use Rattle.markup.specs.Openings.{attributes_to_end, end_at};
 ghost use Rattle.markup.specs.Views.{attribute_view, text_bytes};
 ghost use Rattle.basics.specs.Optional.{Agrees};
 ghost use Rattle.basics.specs.Bytes.{after_run};
 
-use crate::bytes::{after_blanks, starts_blank};
+use crate::bytes::{after_blanks, split_unquoted, starts_blank};
 use crate::content::content_of;
 use crate::names::name_at;
-use crate::searches::place_of;
+use crate::searches::index_of;
 use crate::text::Text;
 use basics::{Name, NoMemory, Seq};
 use std::alloc::Global;
 use std::collections::BTreeSet;
+use std::mem;
 
-/// What follows the blanks at the front, one at least.
+/// What follows the blanks at the start, one at least.
 #[tactic(auto, unfolding(markup_rules::specs::Reading::blank_at))]
 fn blank_at(bytes: &[u8]) -> Option<&[u8]>
     ensures { Agrees (λ rest. rest.now) result (rules.blank_at bytes.now) }
@@ -30,7 +32,7 @@ fn blank_at(bytes: &[u8]) -> Option<&[u8]>
     }
 }
 
-/// What follows the `=` at the front.
+/// What follows the `=` at the start.
 #[tactic(auto, unfolding(markup_rules::specs::Reading::equals_at))]
 fn equals_at(bytes: &[u8]) -> Option<&[u8]>
     ensures { Agrees (λ rest. rest.now) result (rules.equals_at bytes.now) }
@@ -41,7 +43,7 @@ fn equals_at(bytes: &[u8]) -> Option<&[u8]>
     }
 }
 
-/// What stands between the quote at the front and the next equal one, and what follows that.
+/// What stands between the quote at the start and the next equal one, and what follows that.
 #[tactic(auto, unfolding(markup_rules::specs::Reading::quoted_at))]
 fn quoted_at(bytes: &[u8]) -> Option<(&[u8], &[u8])>
     ensures { Agrees (λ found. (found.0.now, found.1.now)) result (rules.quoted_at bytes.now) }
@@ -50,7 +52,7 @@ fn quoted_at(bytes: &[u8]) -> Option<(&[u8], &[u8])>
         [] => None,
         [quote, rest @ ..] => {
             if *quote == b'"' || *quote == b'\'' {
-                let end = place_of(*quote, rest)?;
+                let end = index_of(*quote, rest)?;
                 Some((&rest[..end], &rest[end + 1..]))
             } else {
                 None
@@ -59,11 +61,50 @@ fn quoted_at(bytes: &[u8]) -> Option<(&[u8], &[u8])>
     }
 }
 
-/// The value between quotes at the front, and what follows it.
+/// Whether the byte is `"` or `'`.
+fn is_quote(byte: u8) -> bool
+    ensures { result ≡ ((byte == 34) || (byte == 39)) }
+{
+    byte == b'"' || byte == b'\''
+}
+
+/// What follows the byte at the start, where it is this one.
+fn beyond(mark: u8, bytes: &[u8]) -> Option<&[u8]>
+    ensures { IfSome result (λ after. bytes.now ≡ mark ∷ after.now) }
+{
+    match bytes {
+        [] => None,
+        [byte, after @ ..] => { if *byte == mark { Some(after) } else { None } }
+    }
+}
+
+/// The value between quotes at the start, where it is ASCII without references and quotes, as most are; and
+/// what follows it.
+#[tactic(auto, using(crate::proofs::PlainValues::plain_value))]
+fn plain_value_at(bytes: &[u8]) -> Option<(&str, &[u8])>
+    ensures { IfSome result (λ found. rules.value_at bytes.now ≡ Some (found.0.now, found.1.now)) }
+{
+    match bytes {
+        [] => None,
+        [quote, rest @ ..] => {
+            if !is_quote(*quote) {
+                return None;
+            }
+            let (value, rest) = split_unquoted(rest);
+            let after = beyond(*quote, rest)?;
+            Some((value, after))
+        }
+    }
+}
+
+/// The value between quotes at the start, and what follows it.
 #[tactic(auto, unfolding(markup_rules::specs::Reading::value_at))]
 fn value_at(alloc: Global, bytes: &[u8]) -> Result<Option<(Text<'_>, &[u8])>, NoMemory>
     ensures { IfOk result (λ found. Agrees (λ value. (text_bytes value.0, value.1.now)) found (rules.value_at bytes.now)) }
 {
+    if let Some((value, rest)) = plain_value_at(bytes) {
+        return Ok(Some((Text::Borrowed(value), rest)));
+    }
     let Some((value, rest)) = quoted_at(bytes) else {
         return Ok(None);
     };
@@ -91,7 +132,7 @@ pub(crate) struct Attribute<'a> {
     value: Text<'a>,
 }
 
-/// The attribute at the front, behind a blank at least, and what follows it.
+/// The attribute at the start, after a blank at least, and what follows it.
 #[tactic(auto, unfolding(markup_rules::specs::Reading::attribute_at))]
 fn attribute_at(alloc: Global, bytes: &[u8]) -> Result<Option<(Attribute<'_>, &[u8])>, NoMemory>
     ensures { IfOk result (λ found. Agrees (λ a. (attribute_view a.0, a.1.now)) found (rules.attribute_at bytes.now)) }
@@ -120,105 +161,129 @@ fn has_name(attributes: &[(Name, Name)], name: &str) -> bool
 /// The most attributes of a tag that are compared with one another. The names of more are looked up.
 const FEW: usize = 16;
 
-/// How many attributes a tag with these bytes has at most, or one more than `FEW` where it may have more.
-fn count_up_to_many(bytes: &[u8]) -> usize {
-    bytes
-        .iter()
-        .filter(|byte| **byte == b'=')
-        .take(FEW + 1)
-        .count()
+/// The names of the attributes kept so far, where there are many.
+type Names = Option<BTreeSet<Name>>;
+
+/// The names of some attributes.
+fn names_of(alloc: Global, kept: &[(Name, Name)]) -> Result<BTreeSet<Name>, NoMemory>
+    ensures { IfOk result (λ names. HasNames (Some names) (names_of kept.now)) }
+{
+    let mut names = BTreeSet::new(alloc);
+    for (name, _) in kept {
+        names.insert(name.try_copy(alloc)?)?;
+    }
+    Ok(names)
 }
 
-/// The names of the attributes kept so far, where there may be many.
-type Names<'a> = Option<BTreeSet<&'a str>>;
-
-/// No names so far, in a tag of about so many attributes.
-fn no_names<'a>(alloc: Global, count: usize) -> Names<'a>
-    ensures { HasNames result [] }
+/// Sees to it that the names are looked up as soon as there are many.
+fn look_up_many(alloc: Global, kept: &[(Name, Name)], names: &mut Names) -> Result<(), NoMemory>
+    requires { HasNames names.old (names_of kept.now) }
+    ensures { OnOk result (HasNames names.new (names_of kept.now)) }
 {
-    if count > FEW {
-        Some(BTreeSet::new(alloc))
-    } else {
-        None
+    if names.is_none() && kept.len() >= FEW {
+        *names = Some(names_of(alloc, kept)?);
     }
+    Ok(())
 }
 
 /// Whether none of the attributes kept so far has this name, which counts as kept from now on.
-fn is_first<'a>(
+fn is_first(
+    alloc: Global,
     kept: &[(Name, Name)],
-    names: &mut Names<'a>,
-    name: &'a str,
+    names: &mut Names,
+    name: &Name,
 ) -> Result<bool, NoMemory>
     requires { HasNames names.old (names_of kept.now) }
     ensures first { IfOk result (λ first. first ≡ not (list_any (bytes_eq name.now) (names_of kept.now))) }
     ensures names { IfOk result (λ first. HasNames names.new (if first then names_of kept.now ++ name.now ∷ [] else names_of kept.now)) }
 {
     match names {
-        Some(names) => Ok(names.insert(name)?),
-        None => Ok(!has_name(kept, name)),
+        Some(names) => Ok(names.insert(name.try_copy(alloc)?)?),
+        None => Ok(!has_name(kept, name.as_str())),
     }
 }
 
 /// Adds an attribute, unless one of its name is there.
-fn push_first<'a>(
+pub(crate) fn push_first(
     alloc: Global,
-    kept: &mut Seq<(Name, Name)>,
-    names: &mut Names<'a>,
-    attribute: Attribute<'a>,
+    kept: &mut Vec<(Name, Name)>,
+    names: &mut Names,
+    attribute: Attribute<'_>,
 ) -> Result<(), NoMemory>
-    requires { HasNames names.old (names_of kept.old) }
-    ensures kept { OnOk result (kept.new ≡ with_attribute (attribute_view attribute.entry) kept.old) }
-    ensures names { OnOk result (HasNames names.new (names_of kept.new)) }
+    requires { HasNames names.old (names_of kept.old.items) }
+    ensures kept { OnOk result (kept.new.items ≡ with_attribute (attribute_view attribute.entry) kept.old.items) }
+    ensures names { OnOk result (HasNames names.new (names_of kept.new.items)) }
 {
-    if !is_first(kept.as_slice(), names, attribute.name)? {
+    look_up_many(alloc, kept.as_slice(), names)?;
+    let name = Name::from_str(alloc, attribute.name)?;
+    if !is_first(alloc, kept.as_slice(), names, &name)? {
         return Ok(());
     }
-    let name = Name::from_str(alloc, attribute.name)?;
     let value = Name::from_str(alloc, attribute.value.as_str())?;
-    kept.push((name, value))
+    kept.push((name, value))?;
+    Ok(())
 }
 
-/// The same attributes, which take no more memory than they need.
-fn fitted(kept: Seq<(Name, Name)>) -> Seq<(Name, Name)>
-    ensures { result ≡ kept }
+/// The same attributes, which take no more memory than they need. The room that a few had is left.
+fn take_fitted(alloc: Global, kept: &mut Vec<(Name, Name)>) -> Result<Seq<(Name, Name)>, NoMemory>
+    ensures { IfOk result (λ taken. taken ≡ kept.old.items) }
 {
-    let mut items = kept.into_vec();
-    items.shrink_to_fit();
-    Seq::from_vec(items)
+    if kept.len() > FEW {
+        let mut items = mem::replace(kept, Vec::new(alloc));
+        items.shrink_to_fit();
+        return Ok(Seq::from_vec(items));
+    }
+    let mut items = Vec::with_capacity(alloc, kept.len())?;
+    items.append(kept)?;
+    Ok(Seq::from_vec(items))
 }
 
-/// Whether the bytes are `/` alone.
-fn is_slash(bytes: &[u8]) -> bool
-    ensures { result ≡ rules.is_slash bytes.now }
+/// Whether a slash stands before the `>` at the start, and what follows it: blanks come first. None where an
+/// attribute is left, or the tag is of no right form.
+#[tactic(auto, unfolding(crate::specs::Openings::end_at))]
+fn end_at(bytes: &[u8]) -> Option<(bool, &[u8])>
+    ensures { Agrees (λ end. (end.0, end.1.now)) result (end_at bytes.now) }
 {
-    bytes == b"/".as_slice()
+    match after_blanks(bytes) {
+        [b'>', rest @ ..] => Some((false, rest)),
+        [b'/', b'>', rest @ ..] => Some((true, rest)),
+        _ => None,
+    }
 }
 
-/// Whether no attribute is left before the end of a tag.
-fn is_tag_end(bytes: &[u8]) -> bool
-    ensures { result ≡ rules.is_tag_end bytes.now }
-{
-    let rest = after_blanks(bytes);
-    rest.is_empty() || is_slash(rest)
+/// The attributes at the start, of those with one name the first; whether a slash stands after them, and
+/// what follows the end of their tag.
+#[derive(Drop)]
+pub(crate) struct Attributes<'a> {
+    pub(crate) kept: Seq<(Name, Name)>,
+    pub(crate) has_slash: bool,
+    pub(crate) rest: &'a [u8],
 }
 
-/// The attributes at the front, of those with one name the first, and what ends their tag.
-pub(crate) fn attributes_at(
+/// The attributes at the start, up to the end of their tag. They are gathered in `room`, whatever was in it.
+pub(crate) fn attributes_to_end<'a>(
     alloc: Global,
-    bytes: &[u8],
-) -> Result<Option<(Seq<(Name, Name)>, &[u8])>, NoMemory>
-    ensures { IfOk result (λ found. Agrees (λ a. (a.0, a.1.now)) found (rules.attributes_at bytes.now)) }
+    room: &mut Vec<(Name, Name)>,
+    bytes: &'a [u8],
+) -> Result<Option<Attributes<'a>>, NoMemory>
+    ensures { IfOk result (λ found. Agrees (λ a. ((a.kept, a.has_slash), a.rest.now)) found (attributes_to_end bytes.now)) }
 {
-    let count = count_up_to_many(bytes);
-    let mut names = no_names(alloc, count);
-    let mut kept = Seq::from_vec(Vec::with_capacity(alloc, count)?);
+    let mut names = None;
     let mut rest = bytes;
-    while !is_tag_end(rest) {
+    room.clear();
+    loop {
+        if let Some((has_slash, rest)) = end_at(rest) {
+            let kept = take_fitted(alloc, room)?;
+            return Ok(Some(Attributes {
+                kept,
+                has_slash,
+                rest,
+            }));
+        }
         let Some((attribute, after)) = attribute_at(alloc, rest)? else {
             return Ok(None);
         };
-        push_first(alloc, &mut kept, &mut names, attribute)?;
+        push_first(alloc, room, &mut names, attribute)?;
         rest = after;
     }
-    Ok(Some((fitted(kept), rest)))
 }

@@ -7,8 +7,8 @@ ghost use Rattle.markup_rules.specs.Reading.{allowed, character_of, content_of, 
 ghost use Rattle.markup.specs.Views.{piece_bytes, text_bytes};
 ghost use Rattle.basics.specs.Optional.{Agrees};
 
-use crate::bytes::split_plain;
-use crate::searches::place_of;
+use crate::bytes::{as_text, plain_text, split_literal};
+use crate::searches::index_of;
 use crate::text::{Piece, Text};
 use basics::NoMemory;
 use std::alloc::Global;
@@ -100,7 +100,7 @@ fn hexadecimal(digits: &[u8]) -> Option<char>
     Some(c)
 }
 
-/// The character of a number behind `#`, in hexadecimal digits behind `x`.
+/// The character of a number after `#`, in hexadecimal digits after `x`.
 #[tactic(auto, unfolding(markup_rules::specs::Reading::number_of))]
 fn number_of(bytes: &[u8]) -> Option<char>
     ensures { Agrees (λ c. c) result (number_of bytes.now) }
@@ -163,27 +163,25 @@ fn character_of(body: &[u8]) -> Option<char>
 fn reference_at(bytes: &[u8]) -> Option<(char, &[u8])>
     ensures { Agrees (λ found. (encode_utf8 found.0, found.1.now)) result (reference_at bytes.now) }
 {
-    let end = place_of(b';', bytes)?;
+    let end = index_of(b';', bytes)?;
     let c = character_of(&bytes[..end])?;
     Some((c, &bytes[end + 1..]))
 }
 
-/// The run of characters at the front, one at least, and what follows it.
-#[tactic(auto, using(markup_rules::proofs::Utf8::utf8_true, markup_rules::proofs::Utf8::utf8_false), unfolding(markup_rules::specs::Reading::run_of))]
+/// The run of characters at the start, one at least, and what follows it.
+#[tactic(auto, unfolding(markup_rules::specs::Reading::run_of))]
 fn run_of(bytes: &[u8]) -> Option<(&str, &[u8])>
     ensures { Agrees (λ found. (found.0.now, found.1.now)) result (run_of bytes.now) }
 {
-    let (run, rest) = split_plain(bytes);
+    let (run, rest) = split_literal(bytes);
     if run.is_empty() {
         return None;
     }
-    match str::from_utf8(run) {
-        Ok(run) => Some((run, rest)),
-        Err(_) => None,
-    }
+    let run = as_text(run)?;
+    Some((run, rest))
 }
 
-/// The run or the reference at the front, and what follows it.
+/// The run or the reference at the start, and what follows it.
 #[tactic(auto, unfolding(markup_rules::specs::Reading::piece_at))]
 fn piece_at(bytes: &[u8]) -> Option<(Piece<'_>, &[u8])>
     ensures { Agrees (λ found. (piece_bytes found.0, found.1.now)) result (piece_at bytes.now) }
@@ -202,9 +200,9 @@ fn piece_at(bytes: &[u8]) -> Option<(Piece<'_>, &[u8])>
     }
 }
 
-/// What characters and references mean, or None where a part is neither.
+/// What characters and references mean, piece by piece.
 #[tactic(auto, unfolding(markup_rules::specs::Reading::content_of))]
-pub(crate) fn content_of(alloc: Global, bytes: &[u8]) -> Result<Option<Text<'_>>, NoMemory>
+fn content_by_pieces(alloc: Global, bytes: &[u8]) -> Result<Option<Text<'_>>, NoMemory>
     ensures { IfOk result (λ found. Agrees text_bytes found (content_of bytes.now)) }
 {
     let mut text = Text::new();
@@ -213,8 +211,19 @@ pub(crate) fn content_of(alloc: Global, bytes: &[u8]) -> Result<Option<Text<'_>>
         let Some((piece, after)) = piece_at(rest) else {
             return Ok(None);
         };
-        text = text.with_piece(alloc, piece)?;
+        text.push_piece(alloc, piece)?;
         rest = after;
     }
     Ok(Some(text))
+}
+
+/// What characters and references mean, or None where a part is neither. It is borrowed where no reference
+/// stands in it.
+pub(crate) fn content_of(alloc: Global, bytes: &[u8]) -> Result<Option<Text<'_>>, NoMemory>
+    ensures { IfOk result (λ found. Agrees text_bytes found (content_of bytes.now)) }
+{
+    match plain_text(bytes) {
+        Some(text) => Ok(Some(Text::Borrowed(text))),
+        None => content_by_pieces(alloc, bytes),
+    }
 }

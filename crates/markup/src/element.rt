@@ -75,7 +75,7 @@ impl Element {
 
     /// The offset of its `<` in the text, in bytes.
     #[tactic(auto, using(crate::proofs::PlainLemmas::at_plain))]
-    pub fn place(&self) -> u64
+    pub fn offset(&self) -> u64
         ensures { result ≡ at_of (plain self.now) }
     {
         self.at

@@ -2,10 +2,10 @@ ghost use Rattle.std.specs.Prelude.{◌≡◌, ◌<◌, ◌≤◌, ◌+◌, leng
 ghost use Rattle.markup_rules.specs.Reading as rules;
 ghost use Rattle.markup_rules.specs.Reading.{body_by, comment, instruction, declaration, tag_before, tag_by, data_by};
 ghost use Rattle.markup.specs.Views.{item_view};
-ghost use Rattle.basics.specs.Bytes.{begins, first_place, place_of};
+ghost use Rattle.basics.specs.Bytes.{begins, first_index, index_of};
 
 use crate::bytes::starts_name;
-use crate::searches::{begins, first_place, place_of};
+use crate::searches::{begins, first_index, index_of};
 
 /// An item of a source text, as a first look cuts it off.
 #[derive(Clone, Copy)]
@@ -28,37 +28,37 @@ pub(crate) enum Item<'a> {
     DataToEnd(&'a [u8]),
 }
 
-/// A comment behind `<!--`, and what follows it.
+/// A comment after `<!--`, and what follows it.
 fn comment_at(bytes: &[u8]) -> (Item<'_>, &[u8])
-    ensures { body_by comment 3 bytes.now (first_place (begins (codes "-->")) bytes.now) ≡ (item_view result.0, result.1.now) }
+    ensures { body_by comment 3 bytes.now (first_index (begins (codes "-->")) bytes.now) ≡ (item_view result.0, result.1.now) }
 {
-    match first_place(b"-->", bytes) {
+    match first_index(b"-->", bytes) {
         Some(end) => (Item::Comment(&bytes[..end]), &bytes[end + 3..]),
         None => (Item::Unended, &[]),
     }
 }
 
-/// An instruction behind `<?`, and what follows it.
+/// An instruction after `<?`, and what follows it.
 fn instruction_at(bytes: &[u8]) -> (Item<'_>, &[u8])
-    ensures { body_by instruction 2 bytes.now (first_place (begins (codes "?>")) bytes.now) ≡ (item_view result.0, result.1.now) }
+    ensures { body_by instruction 2 bytes.now (first_index (begins (codes "?>")) bytes.now) ≡ (item_view result.0, result.1.now) }
 {
-    match first_place(b"?>", bytes) {
+    match first_index(b"?>", bytes) {
         Some(end) => (Item::Instruction(&bytes[..end]), &bytes[end + 2..]),
         None => (Item::Unended, &[]),
     }
 }
 
-/// A declaration behind `<!`, and what follows it.
+/// A declaration after `<!`, and what follows it.
 fn declaration_at(bytes: &[u8]) -> (Item<'_>, &[u8])
-    ensures { body_by declaration 1 bytes.now (place_of 62 bytes.now) ≡ (item_view result.0, result.1.now) }
+    ensures { body_by declaration 1 bytes.now (index_of 62 bytes.now) ≡ (item_view result.0, result.1.now) }
 {
-    match place_of(b'>', bytes) {
+    match index_of(b'>', bytes) {
         Some(end) => (Item::Declaration(&bytes[..end]), &bytes[end + 1..]),
         None => (Item::Unended, &[]),
     }
 }
 
-/// The quote that is open behind one byte more.
+/// The quote that is open after one byte more.
 fn quote_after(quote: Option<u8>, byte: u8) -> Option<u8>
     ensures { result ≡ rules.quote_after quote byte }
 {
@@ -81,15 +81,15 @@ fn ends_tag(quote: Option<u8>, byte: u8) -> bool
     byte == b'<' || (byte == b'>' && quote.is_none())
 }
 
-/// The place of the byte that ends a tag, behind its `<`: the first `>` outside quotes, or the first `<`.
+/// The offset of the byte that ends a tag, after its `<`: the first `>` outside quotes, or the first `<`.
 fn tag_end(bytes: &[u8]) -> Option<usize>
-    ensures place { result ≡ rules.tag_end None bytes.now }
-    ensures within { IfSome result (λ place. place < length bytes.now) }
+    ensures index { result ≡ rules.tag_end None bytes.now }
+    ensures within { IfSome result (λ index. index < length bytes.now) }
 {
     let mut quote = None;
-    for (place, byte) in bytes.iter().enumerate() {
+    for (index, byte) in bytes.iter().enumerate() {
         if ends_tag(quote, *byte) {
-            return Some(place);
+            return Some(index);
         }
         quote = quote_after(quote, *byte);
     }
@@ -112,7 +112,7 @@ fn tag_before<'a>(body: &'a [u8], bytes: &'a [u8]) -> (Item<'a>, &'a [u8])
     }
 }
 
-/// A tag behind its `<`, and what follows it.
+/// A tag after its `<`, and what follows it.
 fn tag_at(bytes: &[u8]) -> (Item<'_>, &[u8])
     ensures { tag_by bytes.now (rules.tag_end None bytes.now) ≡ (item_view result.0, result.1.now) }
 {
@@ -125,7 +125,7 @@ fn tag_at(bytes: &[u8]) -> (Item<'_>, &[u8])
     }
 }
 
-/// The item behind a `<`, and what follows it.
+/// The item after a `<`, and what follows it.
 #[tactic(auto, unfolding(markup_rules::specs::Reading::markup_at))]
 fn markup_at(bytes: &[u8]) -> (Item<'_>, &[u8])
     ensures { rules.markup_at bytes.now ≡ (item_view result.0, result.1.now) }
@@ -143,9 +143,9 @@ fn markup_at(bytes: &[u8]) -> (Item<'_>, &[u8])
 
 /// Characters up to the next `<` or the end, and what follows them.
 fn data_at(bytes: &[u8]) -> (Item<'_>, &[u8])
-    ensures { data_by bytes.now (place_of 60 bytes.now) ≡ (item_view result.0, result.1.now) }
+    ensures { data_by bytes.now (index_of 60 bytes.now) ≡ (item_view result.0, result.1.now) }
 {
-    match place_of(b'<', bytes) {
+    match index_of(b'<', bytes) {
         Some(end) => {
             let (data, rest) = bytes.split_at(end);
             (Item::DataBetween(data), rest)
@@ -154,7 +154,8 @@ fn data_at(bytes: &[u8]) -> (Item<'_>, &[u8])
     }
 }
 
-/// The item at the front, and what follows it.
+/// The item at the start, and what follows it.
+#[inline(always)]
 #[tactic(auto, unfolding(markup_rules::specs::Reading::item_at))]
 pub(crate) fn item_at(bytes: &[u8]) -> (Item<'_>, &[u8])
     ensures { rules.item_at bytes.now ≡ (item_view result.0, result.1.now) }

@@ -1,14 +1,17 @@
-ghost use Rattle.std.specs.Prelude.{◌≡◌, IfOk, codes, drop, unwrap_or};
+ghost use Rattle.std.specs.Prelude.{◌≡◌, IfOk, codes, drop, false, unwrap_or};
 ghost use Rattle.markup_rules.specs.Reading as rules;
+ghost use Rattle.markup_rules.specs.Bytes.{starts_name};
 ghost use Rattle.markup_rules.specs.Reading.{bad};
-ghost use Rattle.markup.specs.Views.{item_view, markup_view, opening_view};
+ghost use Rattle.markup.specs.Openings.{IsNoOpening, opening_at};
+ghost use Rattle.markup.specs.Views.{item_view, markup_view};
+ghost use Rattle.basics.specs.Optional.{Agrees};
 
-use crate::attributes::attributes_at;
-use crate::bytes::{after_blanks, are_blanks, is_doctype, is_text};
+use crate::attributes::attributes_to_end;
+use crate::bytes::{are_blanks, is_doctype, is_text};
 use crate::content::content_of;
 use crate::items::Item;
 use crate::names::name_at;
-use crate::searches::{begins, first_place};
+use crate::searches::{begins, first_index};
 use crate::text::Text;
 use basics::{Name, NoMemory, Seq};
 use std::alloc::Global;
@@ -33,42 +36,40 @@ pub(crate) enum Markup<'a> {
     Aside,
     /// A document type.
     Doctype,
-    /// Characters and references: whether they are blanks alone, and what they mean.
-    Content(bool, Text<'a>),
+    /// Characters and references, and what they mean.
+    Content(&'a [u8], Text<'a>),
     /// Of no right form.
     Bad,
 }
 
-/// A tag that starts an element, or is a whole one.
-fn opened(opening: Opening, rest: &[u8]) -> Markup<'_>
-    ensures { markup_view result ≡ rules.opened (opening_view opening) rest.now }
+/// The start of an element after its `<`, and what follows its `>`, or None where it is of no right form.
+/// Its attributes are gathered in `room`, whatever was in it.
+#[tactic(auto, unfolding(crate::specs::Openings::opening_at))]
+pub(crate) fn opening_at<'a>(
+    alloc: Global,
+    room: &mut Vec<(Name, Name)>,
+    bytes: &'a [u8],
+) -> Result<Option<(Markup<'a>, &'a [u8])>, NoMemory>
+    ensures { IfOk result (λ found. Agrees (λ o. (markup_view o.0, o.1.now)) found (opening_at bytes.now)) }
 {
-    if after_blanks(rest).is_empty() {
-        Markup::Start(opening)
-    } else {
-        Markup::Empty(opening)
-    }
-}
-
-/// A tag that starts an element: its name, its attributes, and `/` where the element is empty.
-#[tactic(auto, unfolding(markup_rules::specs::Reading::start_tag))]
-fn start_tag(alloc: Global, body: &[u8]) -> Result<Markup<'_>, NoMemory>
-    ensures { IfOk result (λ markup. markup_view markup ≡ unwrap_or (rules.start_tag body.now) bad) }
-{
-    let Some((name, rest)) = name_at(body) else {
-        return Ok(Markup::Bad);
+    let Some((name, rest)) = name_at(bytes) else {
+        return Ok(None);
     };
-    match attributes_at(alloc, rest)? {
-        Some((attributes, rest)) => {
-            let name = Name::from_str(alloc, name)?;
-            let markup = opened(Opening { name, attributes }, rest);
-            Ok(markup)
-        }
-        None => Ok(Markup::Bad),
+    let Some(attributes) = attributes_to_end(alloc, room, rest)? else {
+        return Ok(None);
+    };
+    let opening = Opening {
+        name: Name::from_str(alloc, name)?,
+        attributes: attributes.kept,
+    };
+    if attributes.has_slash {
+        Ok(Some((Markup::Empty(opening), attributes.rest)))
+    } else {
+        Ok(Some((Markup::Start(opening), attributes.rest)))
     }
 }
 
-/// A tag that ends an element, behind its `/`.
+/// A tag that ends an element, after its `/`.
 #[tactic(auto, unfolding(markup_rules::specs::Reading::end_tag))]
 fn end_tag(body: &[u8]) -> Markup<'_>
     ensures { markup_view result ≡ unwrap_or (rules.end_tag body.now) bad }
@@ -85,19 +86,19 @@ fn end_tag(body: &[u8]) -> Markup<'_>
     }
 }
 
-/// A tag.
-#[tactic(auto, unfolding(markup_rules::specs::Reading::tag_markup))]
-fn tag_markup(alloc: Global, body: &[u8]) -> Result<Markup<'_>, NoMemory>
-    ensures { IfOk result (λ markup. markup_view markup ≡ unwrap_or (rules.tag_markup body.now) bad) }
+/// A tag that starts no element.
+#[tactic(auto, using(crate::proofs::Prefixes::no_opening), unfolding(markup_rules::specs::Reading::tag_markup))]
+fn tag_markup(body: &[u8]) -> Markup<'_>
+    requires { starts_name body.now ≡ false }
+    ensures { markup_view result ≡ unwrap_or (rules.tag_markup body.now) bad }
 {
     match body {
-        [] => Ok(Markup::Bad),
+        [] => Markup::Bad,
         [byte, rest @ ..] => {
             if *byte == b'/' {
-                Ok(end_tag(rest))
+                end_tag(rest)
             } else {
-                let markup = start_tag(alloc, body)?;
-                Ok(markup)
+                Markup::Bad
             }
         }
     }
@@ -109,7 +110,7 @@ fn data_markup(alloc: Global, bytes: &[u8]) -> Result<Markup<'_>, NoMemory>
     ensures { IfOk result (λ markup. markup_view markup ≡ unwrap_or (rules.data_markup bytes.now) bad) }
 {
     match content_of(alloc, bytes)? {
-        Some(text) => Ok(Markup::Content(are_blanks(bytes), text)),
+        Some(text) => Ok(Markup::Content(bytes, text)),
         None => Ok(Markup::Bad),
     }
 }
@@ -119,7 +120,7 @@ fn data_markup(alloc: Global, bytes: &[u8]) -> Result<Markup<'_>, NoMemory>
 fn comment_markup(body: &[u8]) -> Markup<'_>
     ensures { markup_view result ≡ rules.comment_markup body.now }
 {
-    if first_place(b"--", body).is_none() && is_text(body) {
+    if first_index(b"--", body).is_none() && is_text(body) {
         Markup::Aside
     } else {
         Markup::Bad
@@ -150,19 +151,17 @@ fn declaration_markup(body: &[u8]) -> Markup<'_>
     }
 }
 
-/// What an item is.
+/// What an item is that starts no element.
 #[tactic(auto, unfolding(markup_rules::specs::Reading::markup_of))]
 pub(crate) fn markup_of<'a>(alloc: Global, item: Item<'a>) -> Result<Markup<'a>, NoMemory>
+    requires { IsNoOpening (item_view item) }
     ensures { IfOk result (λ found. markup_view found ≡ rules.markup_of (item_view item.entry)) }
 {
     match item {
         Item::Comment(body) => Ok(comment_markup(body)),
         Item::Instruction(body) => Ok(instruction_markup(body)),
         Item::Declaration(body) => Ok(declaration_markup(body)),
-        Item::Tag(body) => {
-            let markup = tag_markup(alloc, body)?;
-            Ok(markup)
-        }
+        Item::Tag(body) => Ok(tag_markup(body)),
         Item::Broken => Ok(Markup::Bad),
         Item::Unended => Ok(Markup::Bad),
         Item::DataBetween(bytes) => {

@@ -10,13 +10,12 @@ ghost use Rattle.markup_rules.specs.Outcome.{outcome};
 ghost use Rattle.markup.specs.Plain.{plain};
 
 use crate::element::Element;
-use crate::items::item_at;
 use crate::searches::begins;
 use crate::state::State;
 use basics::Stop;
 use std::alloc::Global;
 
-/// The text without the byte order mark in front.
+/// The text without the byte order mark in prefix.
 fn after_mark(text: &[u8]) -> &[u8]
     ensures value { result.now ≡ faults.after_mark text.now }
     ensures within { length result.now ≤ length text.now }
@@ -36,16 +35,15 @@ fn read_items(alloc: Global, text: &[u8]) -> Result<Element, Stop>
     let mut state = State::new(alloc);
     let mut rest = after_mark(text);
     while !rest.is_empty() {
-        let (item, after) = item_at(rest);
-        match state.step(alloc, total, rest, item) {
-            Ok(()) => rest = after,
+        match state.step(alloc, total, rest) {
+            Ok(after) => rest = after,
             Err(stop) => return Err(stop),
         }
     }
     state.into_root(alloc, total)
 }
 
-/// Reads the tree of a source text: XML 1.0 in UTF-8, perhaps behind the bytes EF BB BF, and without CDATA
+/// Reads the tree of a source text: XML 1.0 in UTF-8, perhaps after the bytes EF BB BF, and without CDATA
 /// sections, entities of its own and an internal document type. Comments, instructions and one document
 /// type before the root mean nothing. Of two attributes with one name the first counts, and is the only one
 /// in the tree. References are those of XML by name, `&amp;`, `&lt;`, `&gt;`, `&quot;` and `&apos;`, and by
@@ -54,8 +52,8 @@ fn read_items(alloc: Global, text: &[u8]) -> Result<Element, Stop>
 ///
 /// # Errors
 ///
-/// `Stop::At` with a `Spot` of a kind and a place alone, exactly where the text isn't of that form. The place
-/// is an offset in bytes, the three in front included. The text is taken item by item, an item being a
+/// `Stop::At` with a `Spot` of a kind and an offset alone, exactly where the text isn't of that form. The offset
+/// is an offset in bytes, the three in prefix included. The text is taken item by item, an item being a
 /// comment, an instruction, a declaration, a tag or the characters between; the first faulty item decides.
 /// Of one item the kind is TooDeep where it begins an element inside 64 others, at the item; Unfinished
 /// where it has no end, at the length of the text; BadText where it isn't of a right form or may not stand

@@ -1,18 +1,20 @@
-ghost use Rattle.std.specs.Prelude.{◌≡◌, ◌-◌, ◌≤◌, pos, length, MatchResult, OnOk, IfOk, is_some, string_bytes, ◌++◌, ◌∷◌, [], Ok, Err};
+ghost use Rattle.std.specs.Prelude.{◌≡◌, ◌-◌, ◌≤◌, ◌<◌, true, false, pos, length, MatchResult, OnOk, IfOk, is_some, string_bytes, ◌++◌, ◌∷◌, [], Ok, Err};
 ghost use Rattle.basics.specs.Reading.{Fails, Gives, IsStop};
+ghost use Rattle.markup_rules.specs.Reading.{opens};
 ghost use Rattle.markup_rules.specs.Faults.{is_allowed_at, is_innermost, lacks_end, spot};
-ghost use Rattle.markup_rules.specs.Outcome.{adopted, begun, changed, closed, initial, place_of_state, root_or_fault, step, texted};
+ghost use Rattle.markup_rules.specs.Outcome.{adopted, begun, changed, closed, initial, context_of, root_or_fault, step, texted};
 ghost use Rattle.markup.specs.Plain.{plain};
 ghost use Rattle.markup.specs.Views.{item_view, markup_view, opening_view, text_bytes};
-ghost use Rattle.markup.specs.States.{entry_of, frame_of, state_of};
+ghost use Rattle.markup.specs.States.{frame_of, state_of};
+ghost use Rattle.markup.specs.Steps.{BecomesOr, StepsOr, taken};
 
+use crate::bytes::are_blanks;
 use crate::element::Element;
-use crate::items::{Item, opens};
-use crate::markup::{Markup, Opening, markup_of};
+use crate::items::{Item, item_at, opens};
+use crate::markup::{Markup, Opening, markup_of, opening_at};
 use crate::text::Text;
 use basics::{Kind, Name, NoMemory, Seq, Stop, stop_at};
 use std::alloc::Global;
-use std::mem;
 
 /// The most elements that may stand one in another.
 const DEPTH: usize = 64;
@@ -28,13 +30,14 @@ pub(crate) struct Open<'a> {
 }
 
 /// The innermost open element and those around it, the outermost first, the root where it has ended, and
-/// whether a document type has stood.
+/// whether a document type has stood. The attributes of one tag after another are gathered in `room`.
 #[derive(Drop)]
 pub(crate) struct State<'a> {
     innermost: Option<Open<'a>>,
     outer: Vec<Open<'a>>,
     root: Option<Element>,
     is_declared: bool,
+    room: Vec<(Name, Name)>,
 }
 
 /// The stop at a fault, which has nothing but its kind and its place.
@@ -110,6 +113,7 @@ impl<'a> State<'a> {
             outer: Vec::new(alloc),
             root: None,
             is_declared: false,
+            room: Vec::new(alloc),
         }
     }
 
@@ -125,7 +129,7 @@ impl<'a> State<'a> {
 
     /// Whether the innermost open element has this name.
     fn is_innermost(&self, name: &str) -> bool
-        ensures { result ≡ is_innermost name.now (place_of_state (state_of self.now)).names }
+        ensures { result ≡ is_innermost name.now (context_of (state_of self.now)).names }
     {
         match &self.innermost {
             Some(open) => name == open.name.as_str(),
@@ -135,7 +139,7 @@ impl<'a> State<'a> {
 
     /// Whether an item is of a right form and may stand here.
     fn allows(&self, markup: &Markup<'_>) -> bool
-        ensures { result ≡ is_allowed_at (place_of_state (state_of self.now)) (markup_view markup.now) }
+        ensures { result ≡ is_allowed_at (context_of (state_of self.now)) (markup_view markup.now) }
     {
         match markup {
             Markup::Start(_) => self.root.is_none(),
@@ -145,14 +149,14 @@ impl<'a> State<'a> {
             Markup::Doctype => {
                 self.innermost.is_none() && self.root.is_none() && !self.is_declared
             }
-            Markup::Content(is_blank, _) => self.innermost.is_some() || *is_blank,
+            Markup::Content(bytes, _) => self.innermost.is_some() || are_blanks(bytes),
             Markup::Bad => false,
         }
     }
 
     /// Whether an item of this form isn't ended here.
     fn lacks_end(&self, item: Item<'_>) -> bool
-        ensures { result ≡ lacks_end (place_of_state (state_of self.now)) (item_view item.entry) }
+        ensures { result ≡ lacks_end (context_of (state_of self.now)) (item_view item.entry) }
     {
         match item {
             Item::Unended => true,
@@ -203,8 +207,7 @@ impl<'a> State<'a> {
         ensures { OnOk result (state_of self.new ≡ texted (text_bytes text.entry) (state_of self.old).frames (state_of self.old)) }
     {
         if let Some(open) = &mut self.innermost {
-            let before = mem::replace(&mut open.text, Text::new());
-            open.text = before.with_text(alloc, text)?;
+            open.text.push_text(alloc, text)?;
         }
         Ok(())
     }
@@ -230,31 +233,75 @@ impl<'a> State<'a> {
         }
     }
 
-    /// Takes the item at the front of `rest`, which is the end of a text of `total` bytes, or stops at its
-    /// fault, by the order of the tests.
-    pub(crate) fn step(
-        &mut self,
-        alloc: Global,
-        total: usize,
-        rest: &[u8],
-        item: Item<'a>,
-    ) -> Result<(), Stop>
-        requires { length rest.now ≤ total }
-        ensures { MatchResult result (λ _. step total (entry_of rest.now (item_view item.entry)) (state_of self.old) ≡ Ok (state_of self.new)) (λ stop. Fails stop (step total (entry_of rest.now (item_view item.entry)) (state_of self.old))) }
+    /// Takes markup at an offset, if it may stand there.
+    #[inline(always)]
+    fn take_allowed(&mut self, alloc: Global, at: usize, markup: Markup<'a>) -> Result<(), Stop>
+        ensures { BecomesOr result (state_of self.new) (taken at (markup_view markup.entry) (state_of self.old)) }
     {
-        let at = total - rest.len();
-        if opens(rest) && self.depth() >= DEPTH {
-            return Err(stop(alloc, Kind::TooDeep, at));
-        }
-        if self.lacks_end(item) {
-            return Err(stop(alloc, Kind::Unfinished, total));
-        }
-        let markup = markup_of(alloc, item)?;
         if !self.allows(&markup) {
             return Err(stop(alloc, Kind::BadText, at));
         }
         self.take(alloc, at as u64, markup)?;
         Ok(())
+    }
+
+    /// Takes the item at the start of `rest` that starts an element.
+
+    fn open(&mut self, alloc: Global, total: usize, rest: &'a [u8]) -> Result<&'a [u8], Stop>
+        requires opening { opens rest.now ≡ true }
+        requires within { length rest.now ≤ total }
+        ensures { StepsOr result (state_of self.new) total rest.now (state_of self.old) }
+    {
+        let at = total - rest.len();
+        if self.depth() >= DEPTH {
+            return Err(stop(alloc, Kind::TooDeep, at));
+        }
+        let Some((markup, after)) = opening_at(alloc, &mut self.room, &rest[1..])? else {
+            let (item, _) = item_at(rest);
+            if self.lacks_end(item) {
+                return Err(stop(alloc, Kind::Unfinished, total));
+            }
+            return Err(stop(alloc, Kind::BadText, at));
+        };
+        match self.take_allowed(alloc, at, markup) {
+            Ok(()) => Ok(after),
+            Err(stop) => Err(stop),
+        }
+    }
+
+    /// Takes the item at the start of `rest` that starts no element.
+    fn pass(&mut self, alloc: Global, total: usize, rest: &'a [u8]) -> Result<&'a [u8], Stop>
+        requires opening { opens rest.now ≡ false }
+        requires some { 0 < length rest.now }
+        requires within { length rest.now ≤ total }
+        ensures { StepsOr result (state_of self.new) total rest.now (state_of self.old) }
+    {
+        let (item, after) = item_at(rest);
+        if self.lacks_end(item) {
+            return Err(stop(alloc, Kind::Unfinished, total));
+        }
+        let markup = markup_of(alloc, item)?;
+        self.take_allowed(alloc, total - rest.len(), markup)?;
+        Ok(after)
+    }
+
+    /// Takes the item at the start of `rest`, which is the end of a text of `total` bytes, or stops at its
+    /// fault, by the order of the tests. What follows the item is left.
+    pub(crate) fn step(
+        &mut self,
+        alloc: Global,
+        total: usize,
+        rest: &'a [u8],
+    ) -> Result<&'a [u8], Stop>
+        requires some { 0 < length rest.now }
+        requires within { length rest.now ≤ total }
+        ensures { StepsOr result (state_of self.new) total rest.now (state_of self.old) }
+    {
+        if opens(rest) {
+            self.open(alloc, total, rest)
+        } else {
+            self.pass(alloc, total, rest)
+        }
     }
 
     /// The root, where it has ended.

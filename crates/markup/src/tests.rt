@@ -133,7 +133,7 @@ const FAULTS: [(&[u8], Kind, u64); 80] = [
     (b"<a><b c=\"</b></a>", Kind::BadText, 3),
 ];
 
-/// Right texts of which each front from a length on lacks its end, with every form of item. A front of the
+/// Right texts of which each prefix from a length on lacks its end, with every form of item. A prefix of the
 /// byte order mark isn't one.
 const WHOLE: [(usize, &str); 3] = [
     (
@@ -146,7 +146,7 @@ const WHOLE: [(usize, &str); 3] = [
 
 // Writes a tree into a line.
 fn show(element: &Element, out: &mut String) -> Result<(), AllocError> {
-    write!(out, "{}@{}", element.name(), element.place())?;
+    write!(out, "{}@{}", element.name(), element.offset())?;
     for (key, value) in element.attributes() {
         write!(out, " {}={}", key.as_str(), value.as_str())?;
     }
@@ -306,7 +306,7 @@ const ITEMS: [&str; 30] = [
     "<",
 ];
 
-// Each item with each other, before the root element, in it and behind it.
+// Each item with each other, before the root element, in it and after it.
 #[test]
 fn agrees_on_items(rt: HostRuntime) -> Result<(), Fail> {
     let alloc = rt.alloc();
@@ -339,16 +339,16 @@ const SPOILED: [&str; 4] = [
 /// The bytes that tell most.
 const TELLING: &[u8] = b"<>/!?-&;#x'\"= \na0[\x01\x80\xC3";
 
-// Each front of a text, and the text with one byte left out, put in twice, or replaced by another.
+// Each prefix of a text, and the text with one byte left out, put in twice, or replaced by another.
 #[test]
 fn agrees_on_spoiled_texts(rt: HostRuntime) -> Result<(), Fail> {
     let alloc = rt.alloc();
     for text in SPOILED {
         let whole = text.as_bytes();
         for at in 0..whole.len() {
-            let (front, rest) = whole.split_at(at);
-            compare(&rt, alloc, front)?;
-            let mut spoiled = Vec::from_slice(alloc, front)?;
+            let (prefix, rest) = whole.split_at(at);
+            compare(&rt, alloc, prefix)?;
+            let mut spoiled = Vec::from_slice(alloc, prefix)?;
             spoiled.extend_from_slice(&rest[1..])?;
             compare(&rt, alloc, spoiled.as_slice())?;
             spoiled.insert(at, rest[0])?;
@@ -369,16 +369,16 @@ fn agrees_on_spoiled_texts(rt: HostRuntime) -> Result<(), Fail> {
 #[test]
 fn agrees_on_depths(rt: HostRuntime) -> Result<(), Fail> {
     let alloc = rt.alloc();
-    let mut front = String::new(alloc);
+    let mut prefix = String::new(alloc);
     let mut back = String::new(alloc);
     for depth in 1..67 {
-        front.push_str("<a>")?;
+        prefix.push_str("<a>")?;
         back.push_str("</a>")?;
         if depth < 62 {
             continue;
         }
         for item in ITEMS {
-            let text = format!(in alloc; "{front}{item}{back}")?;
+            let text = format!(in alloc; "{prefix}{item}{back}")?;
             compare(&rt, alloc, text.as_bytes())?;
         }
     }

@@ -1,4 +1,4 @@
-ghost use Rattle.std.specs.Prelude.{◌≡◌, ◌++◌, [], IfOk, string_bytes, encode_utf8};
+ghost use Rattle.std.specs.Prelude.{◌≡◌, ◌++◌, [], OnOk, string_bytes, encode_utf8};
 ghost use Rattle.markup.specs.Views.{piece_bytes, text_bytes};
 
 use basics::NoMemory;
@@ -36,52 +36,61 @@ impl<'a> Text<'a> {
         }
     }
 
-    /// The same characters, where more can be added.
-    fn into_string(self, alloc: Global) -> Result<String, NoMemory>
-        ensures { IfOk result (λ text. string_bytes text ≡ text_bytes self.entry) }
+    /// Adds a run.
+    pub(crate) fn push_run(&mut self, alloc: Global, run: &'a str) -> Result<(), NoMemory>
+        ensures { OnOk result (text_bytes self.new ≡ text_bytes self.old ++ run.now) }
     {
         match self {
-            Text::Borrowed(text) => Ok(String::from_str(alloc, text)?),
-            Text::Owned(text) => Ok(text),
-        }
-    }
-
-    /// These characters and then a run.
-    pub(crate) fn with_run(self, alloc: Global, run: &'a str) -> Result<Text<'a>, NoMemory>
-        ensures { IfOk result (λ text. text_bytes text ≡ text_bytes self.entry ++ run.now) }
-    {
-        if self.as_str().is_empty() {
-            return Ok(Text::Borrowed(run));
-        }
-        let mut text = self.into_string(alloc)?;
-        text.push_str(run)?;
-        Ok(Text::Owned(text))
-    }
-
-    /// These characters and then a run or a character.
-    pub(crate) fn with_piece(self, alloc: Global, piece: Piece<'a>) -> Result<Text<'a>, NoMemory>
-        ensures { IfOk result (λ text. text_bytes text ≡ text_bytes self.entry ++ piece_bytes piece.entry) }
-    {
-        match piece {
-            Piece::Run(run) => self.with_run(alloc, run),
-            Piece::Character(c) => {
-                let mut text = self.into_string(alloc)?;
-                text.push(c)?;
-                Ok(Text::Owned(text))
+            Text::Owned(text) => text.push_str(run)?,
+            Text::Borrowed(before) => {
+                if before.is_empty() {
+                    *before = run;
+                } else {
+                    let mut text = String::from_str(alloc, before)?;
+                    text.push_str(run)?;
+                    *self = Text::Owned(text);
+                }
             }
         }
+        Ok(())
     }
 
-    /// These characters and then others.
-    pub(crate) fn with_text(self, alloc: Global, more: Text<'a>) -> Result<Text<'a>, NoMemory>
-        ensures { IfOk result (λ text. text_bytes text ≡ text_bytes self.entry ++ text_bytes more.entry) }
+    /// Adds a character.
+    fn push(&mut self, alloc: Global, c: char) -> Result<(), NoMemory>
+        ensures { OnOk result (text_bytes self.new ≡ text_bytes self.old ++ encode_utf8 c) }
+    {
+        match self {
+            Text::Owned(text) => text.push(c)?,
+            Text::Borrowed(before) => {
+                let mut text = String::from_str(alloc, before)?;
+                text.push(c)?;
+                *self = Text::Owned(text);
+            }
+        }
+        Ok(())
+    }
+
+    /// Adds a run or a character.
+    pub(crate) fn push_piece(&mut self, alloc: Global, piece: Piece<'a>) -> Result<(), NoMemory>
+        ensures { OnOk result (text_bytes self.new ≡ text_bytes self.old ++ piece_bytes piece.entry) }
+    {
+        match piece {
+            Piece::Run(run) => self.push_run(alloc, run),
+            Piece::Character(c) => self.push(alloc, c),
+        }
+    }
+
+    /// Adds other characters.
+    pub(crate) fn push_text(&mut self, alloc: Global, more: Text<'a>) -> Result<(), NoMemory>
+        ensures { OnOk result (text_bytes self.new ≡ text_bytes self.old ++ text_bytes more.entry) }
     {
         match more {
-            Text::Borrowed(run) => self.with_run(alloc, run),
+            Text::Borrowed(run) => self.push_run(alloc, run),
             Text::Owned(more) => {
-                let mut text = self.into_string(alloc)?;
+                let mut text = String::from_str(alloc, self.as_str())?;
                 text.push_str(more.as_str())?;
-                Ok(Text::Owned(text))
+                *self = Text::Owned(text);
+                Ok(())
             }
         }
     }

@@ -8,9 +8,9 @@ use Rattle.markup_rules.proofs.Fuel.{many_next}
 use Rattle.markup_rules.proofs.Shorter.{piece_shortens}
 use Rattle.basics.specs.Optional.{◌>>=◌}
 
--- what content means behind something
-abbrev pub content_behind : List ℕ → List ℕ → Option (List ℕ)
-content_behind front bytes = content_of bytes >>= λ text. Some (front ++ text)
+-- what content means after something
+abbrev pub content_after : List ℕ → List ℕ → Option (List ℕ)
+content_after prefix bytes = content_of bytes >>= λ text. Some (prefix ++ text)
 
 abbrev pieces : List ℕ → Option (List (List ℕ) × List ℕ)
 pieces bytes = many is_nil piece_at bytes
@@ -26,7 +26,7 @@ first_joined : (piece : List ℕ) (later : Option (List (List ℕ) × List ℕ))
 first_joined piece (Some later) = refl
 first_joined piece None = refl
 
--- one piece, and the content behind it
+-- one piece, and the content after it
 abbrev pub content_by : Option (List ℕ × List ℕ) → Option (List ℕ)
 content_by found = found >>= λ p. content_of p.1 >>= λ text. Some (p.0 ++ text)
 
@@ -39,27 +39,27 @@ pub content_next : (b : ℕ) (bytes : List ℕ) → content_of (b ∷ bytes) ≡
 unfolding content_of
 content_next b bytes = ap joined (many_next is_nil piece_at piece_shortens (b ∷ bytes)) ∙ piece_joined (piece_at (b ∷ bytes))
 
-regrouped : (front piece : List ℕ) (text : Option (List ℕ)) → (text >>= (λ t. Some (piece ++ t)) >>= (λ t. Some (front ++ t))) ≡ (text >>= λ t. Some ((front ++ piece) ++ t))
-regrouped front piece (Some text) = ap (λ t. Some t) (sym (append_assoc front piece text))
-regrouped front piece None = refl
+regrouped : (prefix piece : List ℕ) (text : Option (List ℕ)) → (text >>= (λ t. Some (piece ++ t)) >>= (λ t. Some (prefix ++ t))) ≡ (text >>= λ t. Some ((prefix ++ piece) ++ t))
+regrouped prefix piece (Some text) = ap (λ t. Some t) (sym (append_assoc prefix piece text))
+regrouped prefix piece None = refl
 
 -- ---- steps of a loop over pieces
 
-piece_step : (front bytes piece rest : List ℕ) (b : ℕ) → piece_at (b ∷ bytes) ≡ Some (piece, rest) → content_behind (front ++ piece) rest ≡ content_behind front (b ∷ bytes)
-piece_step front bytes piece rest b found =
-    sym (ap (λ o. o >>= λ t. Some (front ++ t)) (content_next b bytes ∙ ap content_by found) ∙ regrouped front piece (content_of rest))
+piece_step : (prefix bytes piece rest : List ℕ) (b : ℕ) → piece_at (b ∷ bytes) ≡ Some (piece, rest) → content_after (prefix ++ piece) rest ≡ content_after prefix (b ∷ bytes)
+piece_step prefix bytes piece rest b found =
+    sym (ap (λ o. o >>= λ t. Some (prefix ++ t)) (content_next b bytes ∙ ap content_by found) ∙ regrouped prefix piece (content_of rest))
 
-pub content_step : (front bytes piece rest : List ℕ) → is_nil bytes ≡ false → piece_at bytes ≡ Some (piece, rest) → content_behind (front ++ piece) rest ≡ content_behind front bytes
-content_step front [] piece rest some found = absurd cc
-content_step front (b ∷ bytes) piece rest some found = piece_step front bytes piece rest b found
+pub content_step : (prefix bytes piece rest : List ℕ) → is_nil bytes ≡ false → piece_at bytes ≡ Some (piece, rest) → content_after (prefix ++ piece) rest ≡ content_after prefix bytes
+content_step prefix [] piece rest some found = absurd cc
+content_step prefix (b ∷ bytes) piece rest some found = piece_step prefix bytes piece rest b found
 
-pub content_none : (front bytes : List ℕ) → is_nil bytes ≡ false → piece_at bytes ≡ None → content_behind front bytes ≡ None
-content_none front [] some none = absurd cc
-content_none front (b ∷ bytes) some none = ap (λ o. o >>= λ t. Some (front ++ t)) (content_next b bytes ∙ ap content_by none)
+pub content_none : (prefix bytes : List ℕ) → is_nil bytes ≡ false → piece_at bytes ≡ None → content_after prefix bytes ≡ None
+content_none prefix [] some none = absurd cc
+content_none prefix (b ∷ bytes) some none = ap (λ o. o >>= λ t. Some (prefix ++ t)) (content_next b bytes ∙ ap content_by none)
 
-pub content_done : (front bytes : List ℕ) → length bytes ≡ 0 → content_behind front bytes ≡ Some front
-content_done front [] e = ap (λ o. o >>= λ t. Some (front ++ t)) content_end ∙ ap (λ t. Some t) (append-nil front)
-content_done front (b ∷ bytes) e = absurd cc
+pub content_done : (prefix bytes : List ℕ) → length bytes ≡ 0 → content_after prefix bytes ≡ Some prefix
+content_done prefix [] e = ap (λ o. o >>= λ t. Some (prefix ++ t)) content_end ∙ ap (λ t. Some t) (append-nil prefix)
+content_done prefix (b ∷ bytes) e = absurd cc
 
 shorter_found : (bytes : List ℕ) (found : Option (List ℕ × List ℕ)) (piece rest : List ℕ) → IfSome found (λ r. length r.1 < length bytes) → (let o : Option (List ℕ × List ℕ) = Some (piece, rest) in found ≡ o) → length rest < length bytes
 shorter_found bytes (Some p) piece rest below e =

@@ -4,8 +4,8 @@ use Rattle.std.specs.Prelude.{Result}
 use Rattle.basics.specs.declared.fault.Spot.{Spot}
 use Rattle.markup_rules.specs.Tree.{Tree}
 use Rattle.markup_rules.specs.Reading.{Entry, Markup, start, empty, finish, aside, doctype, content, bad, items_of, markup_of}
-use Rattle.markup_rules.specs.Faults.{place_after, closed_place, item_fault, fault_from, fault_of, or_else, after_mark}
-use Rattle.markup_rules.specs.Outcome.{Frame, State, initial, place_of_state, changed, adopted, ended, run, root_or_fault, outcome}
+use Rattle.markup_rules.specs.Faults.{context_after, closed_context, item_fault, fault_from, fault_of, or_else, after_mark}
+use Rattle.markup_rules.specs.Outcome.{Frame, State, initial, context_of, changed, adopted, ended, run, root_or_fault, outcome}
 
 abbrev fault_in : Result Tree Spot → Option Spot
 fault_in (Ok tree) = None
@@ -14,41 +14,41 @@ fault_in (Err fault) = Some fault
 abbrev state : List Frame → Option Tree → Bool → State
 state frames root declared = record { frames = frames; root = root; declared = declared }
 
-place_adopted : (tree : Tree) (name : List ℕ) (f : Frame) (frames : List Frame) (root : Option Tree) (declared : Bool)
-    → place_of_state (adopted tree frames (state (f ∷ frames) root declared)) ≡ closed_place (f.name ∷ (place_of_state (state frames root declared)).names) (place_of_state (state (f ∷ frames) root declared))
-place_adopted tree name f [] root declared = refl
-place_adopted tree name f (g ∷ frames) root declared = refl
+context_adopted : (tree : Tree) (name : List ℕ) (f : Frame) (frames : List Frame) (root : Option Tree) (declared : Bool)
+    → context_of (adopted tree frames (state (f ∷ frames) root declared)) ≡ closed_context (f.name ∷ (context_of (state frames root declared)).names) (context_of (state (f ∷ frames) root declared))
+context_adopted tree name f [] root declared = refl
+context_adopted tree name f (g ∷ frames) root declared = refl
 
--- the place behind an item is that of the state behind it
-place_changed : (at : ℕ) (markup : Markup) (frames : List Frame) (root : Option Tree) (declared : Bool)
-    → place_of_state (changed at markup (state frames root declared)) ≡ place_after (place_of_state (state frames root declared)) markup
-place_changed at (start opening) frames root declared = refl
-place_changed at (empty opening) [] root declared = refl
-place_changed at (empty opening) (f ∷ frames) root declared = refl
-place_changed at (finish name) [] root declared = refl
-place_changed at (finish name) (f ∷ frames) root declared = place_adopted (ended f) name f frames root declared
-place_changed at aside frames root declared = refl
-place_changed at doctype frames root declared = refl
-place_changed at (content blank text) [] root declared = refl
-place_changed at (content blank text) (f ∷ frames) root declared = refl
-place_changed at bad frames root declared = refl
+-- the context after an item is that of the state after it
+context_changed : (at : ℕ) (markup : Markup) (frames : List Frame) (root : Option Tree) (declared : Bool)
+    → context_of (changed at markup (state frames root declared)) ≡ context_after (context_of (state frames root declared)) markup
+context_changed at (start opening) frames root declared = refl
+context_changed at (empty opening) [] root declared = refl
+context_changed at (empty opening) (f ∷ frames) root declared = refl
+context_changed at (finish name) [] root declared = refl
+context_changed at (finish name) (f ∷ frames) root declared = context_adopted (ended f) name f frames root declared
+context_changed at aside frames root declared = refl
+context_changed at doctype frames root declared = refl
+context_changed at (content blank text) [] root declared = refl
+context_changed at (content blank text) (f ∷ frames) root declared = refl
+context_changed at bad frames root declared = refl
 
 abbrev Later : ℕ → List Entry → Type 0
-Later total entries = (s : State) → fault_in (run total s entries) ≡ fault_from total (place_of_state s) entries
+Later total entries = (s : State) → fault_in (run total s entries) ≡ fault_from total (context_of s) entries
 
-fault_step : (total : ℕ) (entry : Entry) (entries : List Entry) (s : State) (fault : Option Spot) → item_fault total (place_of_state s) entry ≡ fault → Later total entries
-    → fault_in (run total s (entry ∷ entries)) ≡ or_else (item_fault total (place_of_state s) entry) (fault_from total (place_after (place_of_state s) (markup_of entry.item)) entries)
+fault_step : (total : ℕ) (entry : Entry) (entries : List Entry) (s : State) (fault : Option Spot) → item_fault total (context_of s) entry ≡ fault → Later total entries
+    → fault_in (run total s (entry ∷ entries)) ≡ or_else (item_fault total (context_of s) entry) (fault_from total (context_after (context_of s) (markup_of entry.item)) entries)
 fault_step total entry entries s (Some fault) e later = rw e refl
 fault_step total entry entries s None e later =
-    rw e (later (changed (total - entry.left) (markup_of entry.item) s) ∙ ap (λ p. fault_from total p entries) (place_changed (total - entry.left) (markup_of entry.item) s.frames s.root s.declared))
+    rw e (later (changed (total - entry.left) (markup_of entry.item) s) ∙ ap (λ p. fault_from total p entries) (context_changed (total - entry.left) (markup_of entry.item) s.frames s.root s.declared))
 
-fault_end : (total : ℕ) (frames : List Frame) (root : Option Tree) (declared : Bool) → fault_in (root_or_fault total root) ≡ fault_from total (place_of_state (state frames root declared)) []
+fault_end : (total : ℕ) (frames : List Frame) (root : Option Tree) (declared : Bool) → fault_in (root_or_fault total root) ≡ fault_from total (context_of (state frames root declared)) []
 fault_end total frames (Some tree) declared = refl
 fault_end total frames None declared = refl
 
 fault_run : (total : ℕ) (entries : List Entry) → Later total entries
 fault_run total [] s = fault_end total s.frames s.root s.declared
-fault_run total (entry ∷ entries) s = fault_step total entry entries s (item_fault total (place_of_state s) entry) refl (fault_run total entries)
+fault_run total (entry ∷ entries) s = fault_step total entry entries s (item_fault total (context_of s) entry) refl (fault_run total entries)
 
 fault_whole : (text : List ℕ) → fault_in (outcome text) ≡ fault_of text
 unfolding outcome fault_of

@@ -3,7 +3,7 @@ use Rattle.std.proofs.Common.{◌≡◌, ℕ, zero, suc, ◌+◌, ◌<◌, ◌�
 use Rattle.std.specs.Prelude.{◌==◌, option_map, codes, IfSome}
 use Rattle.std.proofs.lemmas.List.{length-drop}
 use Rattle.markup_rules.specs.Reading.{with_first, no_more, many_to, many, Item, comment, instruction, declaration, broken, tag, item_at, markup_at, data_by, body_by, tag_by, tag_before, tag_end, items_to, items_of, opens, Entry}
-use Rattle.basics.specs.Bytes.{after_run, begins, first_place, place_of}
+use Rattle.basics.specs.Bytes.{after_run, begins, first_index, index_of}
 use Rattle.basics.specs.Optional.{◌>>=◌}
 
 -- the reader leaves fewer bytes than it was given
@@ -13,17 +13,17 @@ Shortens item = (bytes : List ℕ) → IfSome (item bytes) (λ x. length x.1 < l
 abbrev Same : {A : Type 0} → (List ℕ → Bool) → (List ℕ → Option (A × List ℕ)) → ℕ → ℕ → Type 0
 Same ends item n m = (bytes : List ℕ) → length bytes < n → length bytes < m → many_to ends item n bytes ≡ many_to ends item m bytes
 
-many_behind : {A : Type 0} (ends : List ℕ → Bool) (item : List ℕ → Option (A × List ℕ)) (n m count : ℕ) → Same ends item n m → count ≤ n → count ≤ m → (found : Option (A × List ℕ)) → IfSome found (λ x. length x.1 < count)
+many_after : {A : Type 0} (ends : List ℕ → Bool) (item : List ℕ → Option (A × List ℕ)) (n m count : ℕ) → Same ends item n m → count ≤ n → count ≤ m → (found : Option (A × List ℕ)) → IfSome found (λ x. length x.1 < count)
     → (found >>= λ x. with_first x.0 (many_to ends item n x.1)) ≡ (found >>= λ x. with_first x.0 (many_to ends item m x.1))
-many_behind {A} ends item n m count same low high (Some x) shorter =
+many_after {A} ends item n m count same low high (Some x) shorter =
     let rest : length x.1 < count = shorter in
     ap (with_first x.0) (same x.1 (omega arith) (omega arith))
-many_behind ends item n m count same low high None shorter = refl
+many_after ends item n m count same low high None shorter = refl
 
 many_step : {A : Type 0} (ends : List ℕ → Bool) (item : List ℕ → Option (A × List ℕ)) (n m : ℕ) (bytes : List ℕ) → Same ends item n m → length bytes ≤ n → length bytes ≤ m → IfSome (item bytes) (λ x. length x.1 < length bytes) → (end : Bool)
     → cond end (no_more bytes) (item bytes >>= λ x. with_first x.0 (many_to ends item n x.1)) ≡ cond end (no_more bytes) (item bytes >>= λ x. with_first x.0 (many_to ends item m x.1))
 many_step ends item n m bytes same low high shorter true = refl
-many_step ends item n m bytes same low high shorter false = many_behind ends item n m (length bytes) same low high (item bytes) shorter
+many_step ends item n m bytes same low high shorter false = many_after ends item n m (length bytes) same low high (item bytes) shorter
 
 many_same : {A : Type 0} (ends : List ℕ → Bool) (item : List ℕ → Option (A × List ℕ)) → Shortens item → (n m : ℕ) → Same ends item n m
 many_same ends item shortens zero m bytes low high = absurd (omega arith)
@@ -31,7 +31,7 @@ many_same ends item shortens (suc n) zero bytes low high = absurd (omega arith)
 many_same ends item shortens (suc n) (suc m) bytes low high =
     many_step ends item n m bytes (many_same ends item shortens n m) (omega arith) (omega arith) (shortens bytes) (ends bytes)
 
--- one item at the front, and the others
+-- one item at the start, and the others
 abbrev pub many_by : {A : Type 0} → (List ℕ → Bool) → (List ℕ → Option (A × List ℕ)) → List ℕ → Bool → Option (List A × List ℕ)
 many_by ends item bytes true = no_more bytes
 many_by ends item bytes false = item bytes >>= λ x. with_first x.0 (many ends item x.1)
@@ -80,12 +80,12 @@ tag_length bytes None = omega arith
 tag_length bytes (Some n) = omega (arith, tag_before_length (take n bytes) (drop n bytes), length-drop n bytes)
 
 markup_cases : (bytes : List ℕ) (c i d : Bool) → length (let r : Item × List ℕ =
-    cond c (body_by comment 3 (drop 3 bytes) (first_place (begins (codes "-->")) (drop 3 bytes)))
-    (cond i (body_by instruction 2 (drop 1 bytes) (first_place (begins (codes "?>")) (drop 1 bytes)))
-    (cond d (body_by declaration 1 (drop 1 bytes) (place_of 62 (drop 1 bytes))) (tag_by bytes (tag_end None bytes)))) in r.1) ≤ length bytes
-markup_cases bytes true i d = omega (arith, body_length comment 3 (drop 3 bytes) (first_place (begins (codes "-->")) (drop 3 bytes)), length-drop 3 bytes)
-markup_cases bytes false true d = omega (arith, body_length instruction 2 (drop 1 bytes) (first_place (begins (codes "?>")) (drop 1 bytes)), length-drop 1 bytes)
-markup_cases bytes false false true = omega (arith, body_length declaration 1 (drop 1 bytes) (place_of 62 (drop 1 bytes)), length-drop 1 bytes)
+    cond c (body_by comment 3 (drop 3 bytes) (first_index (begins (codes "-->")) (drop 3 bytes)))
+    (cond i (body_by instruction 2 (drop 1 bytes) (first_index (begins (codes "?>")) (drop 1 bytes)))
+    (cond d (body_by declaration 1 (drop 1 bytes) (index_of 62 (drop 1 bytes))) (tag_by bytes (tag_end None bytes)))) in r.1) ≤ length bytes
+markup_cases bytes true i d = omega (arith, body_length comment 3 (drop 3 bytes) (first_index (begins (codes "-->")) (drop 3 bytes)), length-drop 3 bytes)
+markup_cases bytes false true d = omega (arith, body_length instruction 2 (drop 1 bytes) (first_index (begins (codes "?>")) (drop 1 bytes)), length-drop 1 bytes)
+markup_cases bytes false false true = omega (arith, body_length declaration 1 (drop 1 bytes) (index_of 62 (drop 1 bytes)), length-drop 1 bytes)
 markup_cases bytes false false false = tag_length bytes (tag_end None bytes)
 
 markup_length : (bytes : List ℕ) → length (markup_at bytes).1 ≤ length bytes
@@ -97,9 +97,9 @@ data_length : (b : ℕ) (bytes : List ℕ) (later : Option ℕ) → length (data
 data_length b bytes None = omega arith
 data_length b bytes (Some n) = omega (arith, length-drop (n + 1) (b ∷ bytes))
 
-item_cases : (b : ℕ) (bytes : List ℕ) (is : Bool) → length (let r : Item × List ℕ = cond is (markup_at bytes) (data_by (b ∷ bytes) (cond is (Some 0) (option_map (λ n. n + 1) (place_of 60 bytes)))) in r.1) ≤ length bytes
+item_cases : (b : ℕ) (bytes : List ℕ) (is : Bool) → length (let r : Item × List ℕ = cond is (markup_at bytes) (data_by (b ∷ bytes) (cond is (Some 0) (option_map (λ n. n + 1) (index_of 60 bytes)))) in r.1) ≤ length bytes
 item_cases b bytes true = markup_length bytes
-item_cases b bytes false = data_length b bytes (place_of 60 bytes)
+item_cases b bytes false = data_length b bytes (index_of 60 bytes)
 
 pub item_length : (b : ℕ) (bytes : List ℕ) → length (item_at (b ∷ bytes)).1 ≤ length bytes
 unfolding item_at
@@ -113,11 +113,11 @@ items_same (suc n) (suc m) (b ∷ bytes) low high =
     ap (λ es. record { left = length (b ∷ bytes); opening = opens (b ∷ bytes); item = (item_at (b ∷ bytes)).0 } ∷ es)
     (items_same n m (item_at (b ∷ bytes)).1 (omega (arith, item_length b bytes)) (omega (arith, item_length b bytes)))
 
--- the entry of the item at the front
+-- the entry of the item at the start
 abbrev pub entry_at : List ℕ → Entry
 entry_at bytes = record { left = length bytes; opening = opens bytes; item = (item_at bytes).0 }
 
--- and the items behind it
+-- and the items after it
 pub items_next : (b : ℕ) (bytes : List ℕ) → items_of (b ∷ bytes) ≡ entry_at (b ∷ bytes) ∷ items_of (item_at (b ∷ bytes)).1
 unfolding items_of
 items_next b bytes =

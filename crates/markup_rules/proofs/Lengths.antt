@@ -3,8 +3,8 @@ use Rattle.std.proofs.Common.{◌≡◌, ℕ, ◌+◌, List, [], ◌∷◌, ◌+
 use Rattle.std.specs.Prelude.{codes}
 use Rattle.std.proofs.lemmas.List.{length-append}
 use Rattle.markup_rules.specs.Syntax.{Content, content_then, content_text, Attribute, attribute_then, attributes_then, Tag, tag_then, end_tag_then, Aside, comment, instruction, aside_then, Inside, only, then_aside, then_empty, then_child, inside_then, Outside, white, and_aside, outside_then, Prolog, undeclared, declared, prolog_then}
-use Rattle.markup_rules.proofs.Values.{content_append}
-use Rattle.markup_rules.proofs.Cuts.{attribute_append}
+use Rattle.markup_rules.proofs.CompleteTags.{content_append}
+use Rattle.markup_rules.proofs.CompleteItems.{attribute_append}
 
 pub content_length : (c : Content) (rest : List ℕ) → length (content_then c rest) ≡ length (content_text c) + length rest
 content_length c rest = ap length (content_append c rest) ∙ length-append (content_text c) rest

@@ -1,22 +1,22 @@
-mod Asides
+mod CompleteAsides
 pub mod Attributes
-mod Complete
+mod CompleteTrees
 pub mod Contents
-mod Cuts
+pub mod CompleteItems
 pub mod FaultLaw
-pub mod Found
-mod Fronts
+pub mod SoundTexts
+pub mod CompleteNames
 pub mod Fuel
-mod Joins
+mod ContentJoins
 mod Lengths
 pub mod Numbers
-mod Parts
+pub mod SoundContent
 pub mod Searches
 pub mod Shorter
-mod Sound
+mod SoundTrees
 pub mod Steps
-mod Tags
-mod Told
+pub mod SoundTags
+pub mod SoundItems
 pub mod Utf8
-mod Values
-pub mod Whole
+pub mod CompleteTags
+pub mod CompleteTexts

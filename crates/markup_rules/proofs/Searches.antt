@@ -3,9 +3,9 @@ use Rattle.std.proofs.Common.{◌≡◌, ℕ, ◌+◌, ◌<◌, Bool, false, ◌
 use Rattle.std.specs.Prelude.{nat_eq, option_map, ◌==◌}
 use Rattle.std.specs.List.{starts_with}
 use Rattle.std.proofs.lemmas.List.{length-drop, drop-drop}
-use Rattle.basics.specs.Bytes.{begins, first_place}
+use Rattle.basics.specs.Bytes.{begins, first_index}
 
--- a mark at the front
+-- a mark at the start
 pub begins_is : (mark bytes : List ℕ) → starts_with nat_eq bytes mark ≡ begins mark bytes
 begins_is [] [] = refl
 begins_is [] (b ∷ bytes) = refl
@@ -16,13 +16,13 @@ shifted : (i : ℕ) (found : Option ℕ) → option_map (λ (n : ℕ). n + (i + 
 shifted i (Some n) = let e : n + (i + 1) ≡ (n + 1) + i = omega arith in ap (λ (m : ℕ). Some m) e
 shifted i None = refl
 
-step_front : (test : List ℕ → Bool) (i : ℕ) (bytes : List ℕ) → 0 < length bytes → test bytes ≡ false → option_map (λ (n : ℕ). n + (i + 1)) (first_place test (drop 1 bytes)) ≡ option_map (λ (n : ℕ). n + i) (first_place test bytes)
-step_front test i [] some none = absurd (omega arith)
-step_front test i (b ∷ bytes) some none = rw none (shifted i (first_place test bytes))
+step_prefix : (test : List ℕ → Bool) (i : ℕ) (bytes : List ℕ) → 0 < length bytes → test bytes ≡ false → option_map (λ (n : ℕ). n + (i + 1)) (first_index test (drop 1 bytes)) ≡ option_map (λ (n : ℕ). n + i) (first_index test bytes)
+step_prefix test i [] some none = absurd (omega arith)
+step_prefix test i (b ∷ bytes) some none = rw none (shifted i (first_index test bytes))
 
--- one place more of a search
-pub first_place_step : (test : List ℕ → Bool) (bytes : List ℕ) (i : ℕ) → i < length bytes → test (drop i bytes) ≡ false
-    → option_map (λ (n : ℕ). n + (i + 1)) (first_place test (drop (i + 1) bytes)) ≡ option_map (λ (n : ℕ). n + i) (first_place test (drop i bytes))
-first_place_step test bytes i within none =
+-- one index more of a search
+pub first_index_step : (test : List ℕ → Bool) (bytes : List ℕ) (i : ℕ) → i < length bytes → test (drop i bytes) ≡ false
+    → option_map (λ (n : ℕ). n + (i + 1)) (first_index test (drop (i + 1) bytes)) ≡ option_map (λ (n : ℕ). n + i) (first_index test (drop i bytes))
+first_index_step test bytes i within none =
     let some : 0 < length (drop i bytes) = omega (arith, length-drop i bytes) in
-    ap (λ bs. option_map (λ (n : ℕ). n + (i + 1)) (first_place test bs)) (sym (drop-drop 1 i bytes)) ∙ step_front test i (drop i bytes) some none
+    ap (λ bs. option_map (λ (n : ℕ). n + (i + 1)) (first_index test bs)) (sym (drop-drop 1 i bytes)) ∙ step_prefix test i (drop i bytes) some none

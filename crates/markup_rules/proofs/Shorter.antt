@@ -3,10 +3,10 @@ use Rattle.std.proofs.Common.{ℕ, suc, ◌+◌, ◌<◌, ◌≤◌, Bool, true,
 use Rattle.std.specs.Prelude.{◌==◌, ◌||◌, nat_lt, IfSome, encode_utf8}
 use Rattle.std.specs.Str.{is_utf8}
 use Rattle.std.proofs.lemmas.List.{length-drop}
-use Rattle.markup_rules.specs.Bytes.{is_name_byte, is_plain, starts_name}
+use Rattle.markup_rules.specs.Bytes.{is_name_byte, is_literal, starts_name}
 use Rattle.markup_rules.specs.Reading.{name_at, reference_at, character_of, run_of, piece_at, content_of, blank_at, equals_at, quoted_at, value_at, label_at, attribute_at}
 use Rattle.markup_rules.proofs.Fuel.{Shortens, after_run_length}
-use Rattle.basics.specs.Bytes.{is_blank, run_at, after_run, place_of}
+use Rattle.basics.specs.Bytes.{is_blank, run_at, after_run, index_of}
 use Rattle.basics.specs.Optional.{◌>>=◌}
 
 abbrev Below : {A : Type 0} → ℕ → Option (A × List ℕ) → Type 0
@@ -38,18 +38,18 @@ any None = tt
 reference_within : (bytes : List ℕ) → IfSome (reference_at bytes) (λ r. length r.1 ≤ length bytes)
 unfolding reference_at
 reference_within bytes =
-    within_bind (length bytes) (place_of 59 bytes) (λ end. character_of (take end bytes) >>= λ c. Some (encode_utf8 c, drop (end + 1) bytes)) (λ x. Unit {0}) (any (place_of 59 bytes))
+    within_bind (length bytes) (index_of 59 bytes) (λ end. character_of (take end bytes) >>= λ c. Some (encode_utf8 c, drop (end + 1) bytes)) (λ x. Unit {0}) (any (index_of 59 bytes))
     (λ end _. within_bind (length bytes) (character_of (take end bytes)) (λ c. Some (encode_utf8 c, drop (end + 1) bytes)) (λ x. Unit {0}) (any (character_of (take end bytes)))
     (λ c _. omega (arith, length-drop (end + 1) bytes)))
 
-run_cases : (b : ℕ) (bytes : List ℕ) (is valid : Bool) → Below {A = List ℕ} (suc (length bytes)) (cond (nat_lt 0 (length (cond is (b ∷ run_at is_plain bytes) [])) && valid) (Some (cond is (b ∷ run_at is_plain bytes) [], cond is (after_run is_plain bytes) (b ∷ bytes))) None)
+run_cases : (b : ℕ) (bytes : List ℕ) (is valid : Bool) → Below {A = List ℕ} (suc (length bytes)) (cond (nat_lt 0 (length (cond is (b ∷ run_at is_literal bytes) [])) && valid) (Some (cond is (b ∷ run_at is_literal bytes) [], cond is (after_run is_literal bytes) (b ∷ bytes))) None)
 run_cases b bytes true valid =
-    some_if (λ (r : List ℕ × List ℕ). length r.1 < suc (length bytes)) (nat_lt 0 (length (b ∷ run_at is_plain bytes)) && valid) (b ∷ run_at is_plain bytes, after_run is_plain bytes) (omega (arith, after_run_length is_plain bytes))
+    some_if (λ (r : List ℕ × List ℕ). length r.1 < suc (length bytes)) (nat_lt 0 (length (b ∷ run_at is_literal bytes)) && valid) (b ∷ run_at is_literal bytes, after_run is_literal bytes) (omega (arith, after_run_length is_literal bytes))
 run_cases b bytes false valid = tt
 
 run_shorter : (b : ℕ) (bytes : List ℕ) → IfSome (run_of (b ∷ bytes)) (λ r. length r.1 < suc (length bytes))
 unfolding run_of
-run_shorter b bytes = run_cases b bytes (is_plain b) (is_utf8 (run_at is_plain (b ∷ bytes)))
+run_shorter b bytes = run_cases b bytes (is_literal b) (is_utf8 (run_at is_literal (b ∷ bytes)))
 
 weaker : {A : Type 0} (n : ℕ) (o : Option (A × List ℕ)) → IfSome o (λ r. length r.1 ≤ n) → IfSome o (λ r. length r.1 < suc n)
 weaker n (Some x) within = let low : length x.1 ≤ n = within in omega arith
@@ -92,7 +92,7 @@ not_more n None below = tt
 quoted_within : (bytes : List ℕ) → IfSome (quoted_at bytes) (λ r. length r.1 ≤ length bytes)
 unfolding quoted_at
 quoted_within [] = tt
-quoted_within (b ∷ bytes) = not_more (suc (length bytes)) (quoted_at (b ∷ bytes)) (quoted_cases b bytes ((b == 34) || (b == 39)) (place_of b bytes))
+quoted_within (b ∷ bytes) = not_more (suc (length bytes)) (quoted_at (b ∷ bytes)) (quoted_cases b bytes ((b == 34) || (b == 39)) (index_of b bytes))
 
 value_within : (bytes : List ℕ) → IfSome (value_at bytes) (λ r. length r.1 ≤ length bytes)
 unfolding value_at

@@ -1,5 +1,5 @@
 -- The classes of bytes in a source text, and runs of one class. Numbers are bytes: 60 is <, 62 >, 38 &, 47 /.
-use Rattle.std.specs.Prelude.{ℕ, Bool, true, false, not, ◌&&◌, ◌||◌, List, [], ◌∷◌, Option, Some, None, ◌==◌, nat_le, nat_lt, option_map, ◌+◌, if◌then◌else◌}
+use Rattle.std.specs.Prelude.{ℕ, Bool, false, not, ◌&&◌, ◌||◌, List, [], ◌∷◌, ◌==◌, nat_le, nat_lt, ◌+◌, if◌then◌else◌}
 use Rattle.std.specs.List.{list_all}
 use Rattle.std.specs.Str.{is_utf8}
 use Rattle.std.specs.Char.{is_ascii_alphabetic, is_ascii_digit}
@@ -10,8 +10,8 @@ abbrev pub is_character : ℕ → Bool
 is_character b = nat_le 32 b || ((b == 9) || ((b == 10) || (b == 13)))
 
 -- a byte that stands for itself in content: neither < nor &
-abbrev pub is_plain : ℕ → Bool
-is_plain b = is_character b && (not (b == 60) && not (b == 38))
+abbrev pub is_literal : ℕ → Bool
+is_literal b = is_character b && (not (b == 60) && not (b == 38))
 
 -- a letter, _, : or a byte of a character past ASCII
 abbrev pub is_name_start : ℕ → Bool
@@ -45,4 +45,4 @@ is_doctype bytes = starts_blank bytes && (list_all is_doctype_byte bytes && is_u
 abbrev pub is_allowed : ℕ → Bool
 is_allowed n = is_character n && (nat_lt n 0xD800 || (nat_le 0xE000 n && nat_lt n 0x11_0000))
 
--- ---- what stands at the front
+-- ---- what stands at the start

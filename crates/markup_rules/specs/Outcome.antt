@@ -5,7 +5,7 @@ use Rattle.basics.specs.declared.fault.Spot.{Spot}
 use Rattle.basics.specs.Reading.{◌>>=◌}
 use Rattle.markup_rules.specs.Tree.{Tree, node, trees_of}
 use Rattle.markup_rules.specs.Reading.{Entry, Opening, Markup, start, empty, finish, aside, doctype, content, bad, items_of, markup_of}
-use Rattle.markup_rules.specs.Faults.{Place, after_mark, item_fault, spot}
+use Rattle.markup_rules.specs.Faults.{Context, after_mark, item_fault, spot}
 
 -- an element that is open, with what stands in it so far
 pub record Frame : Type 0 where
@@ -24,8 +24,8 @@ pub record State : Type 0 where
 abbrev pub initial : State
 initial = record { frames = []; root = None; declared = false }
 
-abbrev pub place_of_state : State → Place
-place_of_state s = record { names = map (λ (f : Frame). f.name) s.frames; rooted = is_some s.root; declared = s.declared }
+abbrev pub context_of : State → Context
+context_of s = record { names = map (λ (f : Frame). f.name) s.frames; rooted = is_some s.root; declared = s.declared }
 
 -- an element that has just begun, and one that has ended
 abbrev pub begun : ℕ → Opening → Frame
@@ -47,7 +47,7 @@ abbrev pub texted : List ℕ → List Frame → State → State
 texted text [] s = s
 texted text (f ∷ frames) s = record s { frames = record f { text = f.text ++ text } ∷ frames }
 
--- what a right item at a place makes of the state
+-- what a right item at an offset makes of the state
 abbrev pub changed : ℕ → Markup → State → State
 changed at (start opening) s = record s { frames = begun at opening ∷ s.frames }
 changed at (empty opening) s = adopted (ended (begun at opening)) s.frames s
@@ -57,13 +57,13 @@ changed at doctype s = record s { declared = true }
 changed at (content blank text) s = texted text s.frames s
 changed at bad s = s
 
--- the fault of an item, or the state behind it
+-- the fault of an item, or the state after it
 abbrev pub step_by : ℕ → Entry → State → Option Spot → Result State Spot
 step_by total entry s (Some fault) = Err fault
 step_by total entry s None = Ok (changed (total - entry.left) (markup_of entry.item) s)
 
 abbrev pub step : ℕ → Entry → State → Result State Spot
-step total entry s = step_by total entry s (item_fault total (place_of_state s) entry)
+step total entry s = step_by total entry s (item_fault total (context_of s) entry)
 
 -- at the end of the text
 abbrev pub root_or_fault : ℕ → Option Tree → Result Tree Spot

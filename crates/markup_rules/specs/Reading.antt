@@ -1,15 +1,15 @@
--- Source texts read from left to right: what stands at the front, piece by piece, and what follows it.
+-- Source texts read from left to right: what stands at the start, piece by piece, and what follows it.
 use Rattle.std.specs.Prelude.{◌≡◌, ℕ, zero, suc, ◌+◌, Bool, true, false, ◌&&◌, ◌||◌, List, [], ◌∷◌, length, take, drop, codes, Option, Some, None, ◌==◌, nat_lt, encode_utf8, is_none, unwrap_or, option_map, if◌then◌else◌}
 use Rattle.std.specs.List.{list_all, concat}
 use Rattle.std.specs.Str.{is_utf8, bytes_eq}
 use Rattle.std.specs.Str.Parse.{digits_value}
 use Rattle.std.specs.Char.{is_ascii_digit, is_ascii_hexdigit}
-use Rattle.markup_rules.specs.Bytes.{is_plain, is_name_byte, is_text, is_doctype, is_allowed, starts_name, starts_blank}
+use Rattle.markup_rules.specs.Bytes.{is_literal, is_name_byte, is_text, is_doctype, is_allowed, starts_name, starts_blank}
 use Rattle.markup_rules.specs.Syntax.{firsts}
-use Rattle.basics.specs.Bytes.{is_blank, run_at, after_run, begins, first_place, place_of}
+use Rattle.basics.specs.Bytes.{is_blank, run_at, after_run, begins, first_index, index_of}
 use Rattle.basics.specs.Optional.{◌>>=◌}
 
--- one more value in front of those that were found
+-- one more value before those that were found
 abbrev pub with_first : {A : Type 0} → A → Option (List A × List ℕ) → Option (List A × List ℕ)
 with_first x None = None
 with_first x (Some more) = Some (x ∷ more.0, more.1)
@@ -41,7 +41,7 @@ allowed n = if is_allowed n then Some n else None
 unfoldable pub numbered : ℕ → (ℕ → Bool) → List ℕ → Option ℕ
 numbered radix class digits = if nat_lt 0 (length digits) && list_all class digits then allowed (digits_value radix digits) else None
 
--- of what stands behind #; 120 is the x
+-- of what stands after #; 120 is the x
 unfoldable pub number_of : List ℕ → Option ℕ
 number_of [] = None
 number_of (b ∷ bytes) = if b == 120 then numbered 16 is_ascii_hexdigit bytes else numbered 10 is_ascii_digit (b ∷ bytes)
@@ -60,17 +60,17 @@ character_of body =
     (if bytes_eq body (codes "quot") then Some 34 else
     (if bytes_eq body (codes "apos") then Some 39 else number_reference body))))
 
--- behind &, as the bytes of its character; 59 is the semicolon
+-- after &, as the bytes of its character; 59 is the semicolon
 unfoldable pub reference_at : List ℕ → Option (List ℕ × List ℕ)
 reference_at bytes = do
-  end ← place_of 59 bytes
+  end ← index_of 59 bytes
   c ← character_of (take end bytes)
   Some (encode_utf8 c, drop (end + 1) bytes)
 
 -- ---- characters and references
 
 unfoldable pub run_of : List ℕ → Option (List ℕ × List ℕ)
-run_of bytes = if nat_lt 0 (length (run_at is_plain bytes)) && is_utf8 (run_at is_plain bytes) then Some (run_at is_plain bytes, after_run is_plain bytes) else None
+run_of bytes = if nat_lt 0 (length (run_at is_literal bytes)) && is_utf8 (run_at is_literal bytes) then Some (run_at is_literal bytes, after_run is_literal bytes) else None
 
 unfoldable pub piece_at : List ℕ → Option (List ℕ × List ℕ)
 piece_at [] = None
@@ -99,7 +99,7 @@ equals_at (b ∷ bytes) = if b == 61 then Some bytes else None
 -- what stands between two equal quotes
 unfoldable pub quoted_at : List ℕ → Option (List ℕ × List ℕ)
 quoted_at [] = None
-quoted_at (b ∷ bytes) = if (b == 34) || (b == 39) then (place_of b bytes >>= λ end. Some (take end bytes, drop (end + 1) bytes)) else None
+quoted_at (b ∷ bytes) = if (b == 34) || (b == 39) then (index_of b bytes >>= λ end. Some (take end bytes, drop (end + 1) bytes)) else None
 
 unfoldable pub value_at : List ℕ → Option (List ℕ × List ℕ)
 value_at bytes = do
@@ -124,7 +124,7 @@ attribute_at bytes = do
 abbrev pub is_slash : List ℕ → Bool
 is_slash bytes = bytes_eq bytes (codes "/")
 
--- behind the attributes of a tag: white space, and / where the element is empty
+-- after the attributes of a tag: white space, and / where the element is empty
 abbrev pub is_tag_end : List ℕ → Bool
 is_tag_end bytes = is_nil (after_run is_blank bytes) || is_slash (after_run is_blank bytes)
 
@@ -153,7 +153,7 @@ abbrev pub body_by : (List ℕ → Item) → ℕ → List ℕ → Option ℕ →
 body_by item size bytes None = (unended, [])
 body_by item size bytes (Some n) = (item (take n bytes), drop (n + size) bytes)
 
--- where quotes are open: the open quote, behind one byte more
+-- where quotes are open: the open quote, after one byte more
 abbrev pub quote_after : Option ℕ → ℕ → Option ℕ
 quote_after None b = if (b == 34) || (b == 39) then Some b else None
 quote_after (Some quote) b = if b == quote then None else Some quote
@@ -174,21 +174,21 @@ abbrev pub tag_by : List ℕ → Option ℕ → Item × List ℕ
 tag_by bytes None = (unended, [])
 tag_by bytes (Some n) = tag_before (take n bytes) (drop n bytes)
 
--- behind <
+-- after <
 unfoldable pub markup_at : List ℕ → Item × List ℕ
 markup_at bytes =
-    if begins (codes "!--") bytes then body_by comment 3 (drop 3 bytes) (first_place (begins (codes "-->")) (drop 3 bytes)) else
-    (if begins (codes "?") bytes then body_by instruction 2 (drop 1 bytes) (first_place (begins (codes "?>")) (drop 1 bytes)) else
-    (if begins (codes "!") bytes then body_by declaration 1 (drop 1 bytes) (place_of 62 (drop 1 bytes)) else tag_by bytes (tag_end None bytes)))
+    if begins (codes "!--") bytes then body_by comment 3 (drop 3 bytes) (first_index (begins (codes "-->")) (drop 3 bytes)) else
+    (if begins (codes "?") bytes then body_by instruction 2 (drop 1 bytes) (first_index (begins (codes "?>")) (drop 1 bytes)) else
+    (if begins (codes "!") bytes then body_by declaration 1 (drop 1 bytes) (index_of 62 (drop 1 bytes)) else tag_by bytes (tag_end None bytes)))
 
 abbrev pub data_by : List ℕ → Option ℕ → Item × List ℕ
 data_by bytes None = (data_to_end bytes, [])
 data_by bytes (Some n) = (data_between (take n bytes), drop n bytes)
 
--- the item at the front, and what follows it
+-- the item at the start, and what follows it
 unfoldable pub item_at : List ℕ → Item × List ℕ
 item_at [] = (unended, [])
-item_at (b ∷ bytes) = if b == 60 then markup_at bytes else data_by (b ∷ bytes) (place_of 60 (b ∷ bytes))
+item_at (b ∷ bytes) = if b == 60 then markup_at bytes else data_by (b ∷ bytes) (index_of 60 (b ∷ bytes))
 
 -- whether the bytes are < and a byte with which names begin
 abbrev pub opens : List ℕ → Bool
@@ -207,7 +207,7 @@ items_to zero (b ∷ bytes) = []
 items_to (suc n) (b ∷ bytes) =
     record { left = length (b ∷ bytes); opening = opens (b ∷ bytes); item = (item_at (b ∷ bytes)).0 } ∷ items_to n (item_at (b ∷ bytes)).1
 
--- the text cut into items, from the front
+-- the text cut into items, from the prefix
 unfoldable pub items_of : List ℕ → List Entry
 items_of bytes = items_to (length bytes) bytes
 
@@ -253,7 +253,7 @@ abbrev pub if_right : Bool → Markup → Markup
 if_right right markup = if right then markup else bad
 
 unfoldable pub comment_markup : List ℕ → Markup
-comment_markup body = if_right (is_none (first_place (begins (codes "--")) body) && is_text body) aside
+comment_markup body = if_right (is_none (first_index (begins (codes "--")) body) && is_text body) aside
 
 unfoldable pub instruction_markup : List ℕ → Markup
 instruction_markup body = if_right (is_text body) aside

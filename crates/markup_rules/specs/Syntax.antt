@@ -6,9 +6,9 @@ use Rattle.std.specs.List.{list_all, list_any}
 use Rattle.std.specs.Str.{is_utf8, bytes_eq}
 use Rattle.std.specs.Str.Parse.{digits_value}
 use Rattle.std.specs.Char.{is_ascii_digit, is_ascii_hexdigit}
-use Rattle.markup_rules.specs.Bytes.{is_plain, is_name_byte, is_text, is_doctype, is_allowed, starts_name, starts_blank}
+use Rattle.markup_rules.specs.Bytes.{is_literal, is_name_byte, is_text, is_doctype, is_allowed, starts_name, starts_blank}
 use Rattle.markup_rules.specs.Tree.{Tree, node, trees_of}
-use Rattle.basics.specs.Bytes.{is_blank, begins, first_place}
+use Rattle.basics.specs.Bytes.{is_blank, begins, first_index}
 
 -- ---- names
 
@@ -85,7 +85,7 @@ content_meaning (run bytes) = bytes
 content_meaning (then_reference bytes r content) = bytes ++ (encode_utf8 (character r) ++ content_meaning content)
 
 pub record IsRun (bytes : List ℕ) : Type 0 where
-  pub each : IsTrue (list_all is_plain bytes)
+  pub each : IsTrue (list_all is_literal bytes)
   pub utf8 : IsTrue (is_utf8 bytes)
 
 abbrev pub IsContent : Content → Type 0
@@ -164,7 +164,7 @@ aside_then (instruction body) rest = codes "<?" ++ (body ++ (codes "?>" ++ rest)
 
 -- the text has the mark nowhere
 abbrev pub IsWithout : List ℕ → List ℕ → Type 0
-IsWithout mark bytes = IsTrue (is_none (first_place (begins mark) bytes))
+IsWithout mark bytes = IsTrue (is_none (first_index (begins mark) bytes))
 
 pub record IsAsideOf (mark body : List ℕ) : Type 0 where
   pub text : IsTrue (is_text body)
@@ -205,7 +205,7 @@ own_text (then_aside c aside more) = content_meaning c ++ own_text more
 own_text (then_empty c tag more) = content_meaning c ++ own_text more
 own_text (then_child c tag inside blanks more) = content_meaning c ++ own_text more
 
--- the children, where the inside begins at a place of the file
+-- the children, where the inside begins at an offset of the file
 abbrev pub children_from : ℕ → Inside → List Tree
 children_from at (only c) = []
 children_from at (then_aside c aside more) = children_from (at + length (content_then c (aside_then aside []))) more
@@ -260,7 +260,7 @@ abbrev pub IsRoot : Root → Type 0
 IsRoot (empty_root tag) = IsTag tag
 IsRoot (full_root tag inside blanks) = IsTag tag × IsInside 63 inside × AreBlanks blanks
 
--- the root's tree, where it begins at a place of the file
+-- the root's tree, where it begins at an offset of the file
 abbrev pub root_tree : ℕ → Root → Tree
 root_tree at (empty_root tag) = node tag.name (tag_attributes tag) (trees_of []) [] at
 root_tree at (full_root tag inside blanks) =
@@ -268,7 +268,7 @@ root_tree at (full_root tag inside blanks) =
 
 -- ---- whole texts
 
--- the byte order mark of UTF-8, which may stand in front
+-- the byte order mark of UTF-8, which may stand in prefix
 abbrev pub order_mark : List ℕ
 order_mark = 0xEF ∷ 0xBB ∷ 0xBF ∷ []
 

@@ -2,7 +2,7 @@
 use Rattle.std.specs.Prelude.{ℕ, Bool, List, [], ◌∷◌, Option, Some, None, if◌then◌else◌}
 use Rattle.std.specs.Str.{bytes_eq}
 
--- an element: its name, its attributes as names with values, its children, its own text, and the place of
+-- an element: its name, its attributes as names with values, its children, its own text, and the offset of
 -- its first byte in the file
 mutual
   pub data Tree : Type 0 where

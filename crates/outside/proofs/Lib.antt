@@ -2,4 +2,4 @@ pub mod Saying
 pub mod Streams
 pub mod Puts
 mod Cut
-mod PlaceLists
+mod SlotLists

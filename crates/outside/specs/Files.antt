@@ -19,9 +19,9 @@ abbrev pub add : Files → Option (List ℕ) → List ℕ → Files
 add files None bytes = files
 add files (Some path) bytes = put files path (content files path ++ bytes)
 
--- the first list is a front of the second
-abbrev pub IsFront : List ℕ → List ℕ → Type 0
-IsFront front whole = (rest : List ℕ) × (front ++ rest ≡ whole)
+-- the first list is a prefix of the second
+abbrev pub IsPrefix : List ℕ → List ℕ → Type 0
+IsPrefix prefix whole = (rest : List ℕ) × (prefix ++ rest ≡ whole)
 
 -- a count of faults rose; one that stands at the end of 64 bits counts as risen where it doesn't fall
 abbrev pub HasRisen : ℕ → ℕ → Type 0

@@ -8,7 +8,7 @@ use Rattle.outside.specs.Files.{Files}
 abbrev pub first_at : List (List ℕ × Vec ℕ) → Files
 first_at files path = option_map (λ file. file.1.items) (find (λ file. bytes_eq file.0 path) files)
 
--- the room of the first place with this path
+-- the room of the first slot with this path
 abbrev pub first_room : List (List ℕ × ℕ) → List ℕ → Option ℕ
 first_room rooms path = option_map (λ room. room.1) (find (λ room. bytes_eq room.0 path) rooms)
 

@@ -11,7 +11,7 @@ pub mod Stream
 pub mod Stored
 pub mod SureSay
 pub mod MemorySay
-pub mod Placed
+pub mod SlotState
 pub mod SureOutputs
 pub mod MemoryOutputs
 pub mod States

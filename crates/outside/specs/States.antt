@@ -21,7 +21,7 @@ pub record OutputsState : Type 1 where
   pub is_sure : Type 0
   pub room : List ℕ → Option ℕ
 
--- A place to say text. Where `tells` holds, `said` is all that was said. `faults` counts the calls that failed. One
+-- Where text is said. Where `tells` holds, `said` is all that was said. `faults` counts the calls that failed. One
 -- that `is_sure` fails only where the text said would exceed its `room`.
 pub record SayState : Type 1 where
   pub tells : Type 0

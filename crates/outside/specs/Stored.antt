@@ -7,7 +7,7 @@ pub record Stored : Type 0 where
   pub size : ℕ
   pub bytes : List ℕ
 
--- the front of a piece that fits beside the bytes held
+-- the start of a piece that fits beside the bytes held
 abbrev pub fitting : ℕ → List ℕ → List ℕ → List ℕ
 fitting size held piece = take (size - length held) piece
 
@@ -20,7 +20,7 @@ abbrev pub Fits : Option ℕ → ℕ → ℕ → Type 0
 Fits None held more = ⊥
 Fits (Some room) held more = held + more ≤ room
 
--- the front of a piece that fits beside the bytes held
+-- the start of a piece that fits beside the bytes held
 abbrev pub fitting_in : Option ℕ → List ℕ → List ℕ → List ℕ
 fitting_in None held piece = []
 fitting_in (Some room) held piece = fitting room held piece
@@ -35,7 +35,7 @@ abbrev pub ExceedsAt : (List ℕ → Option ℕ) → Files → Option (List ℕ)
 ExceedsAt room files None piece = ⊥
 ExceedsAt room files (Some path) piece = Exceeds (room path) (length (content files path)) (length piece)
 
--- the front of a piece that fits at the path that is begun
+-- the start of a piece that fits at the path that is begun
 abbrev pub fitting_at : (List ℕ → Option ℕ) → Files → Option (List ℕ) → List ℕ → List ℕ
 fitting_at room files None piece = []
 fitting_at room files (Some path) piece = fitting_in (room path) (content files path) piece

@@ -1,7 +1,7 @@
 -- What reading a stream within a limit, and writing to one, answers where its bytes are known.
 use Rattle.std.specs.Prelude.{◌≡◌, ℕ, ◌+◌, ◌^◌, ◌≤◌, List, length, Option, Some, None, Result, Ok, Err}
 use Rattle.std.specs.Io.KnownBytes.{Appends}
-use Rattle.outside.specs.Files.{IsFront}
+use Rattle.outside.specs.Files.{IsPrefix}
 use Rattle.outside.specs.Found.{Finds}
 use Rattle.outside.specs.declared.traits.Found.{Found}
 use Rattle.outside.specs.declared.traits.Found.TheVariants.{TooLong}
@@ -21,12 +21,12 @@ abbrev pub CountsKnown : ℕ → Option (List ℕ) → ℕ → Type 0
 CountsKnown before None n = Unit {0}
 CountsKnown before (Some bytes) n = n ≡ before + length bytes
 
--- the stream grew by the bytes, or by a front of them where an error came
-abbrev pub AppendsFront : {X E : Type 0} → Option (List ℕ) → Option (List ℕ) → List ℕ → Result X E → Type 0
-AppendsFront old new bytes (Ok _) = Appends old new bytes
-AppendsFront old new bytes (Err _) = (front : List ℕ) × IsFront front bytes × Appends old new front
+-- the stream grew by the bytes, or by a prefix of them where an error came
+abbrev pub AppendsPrefix : {X E : Type 0} → Option (List ℕ) → Option (List ℕ) → List ℕ → Result X E → Type 0
+AppendsPrefix old new bytes (Ok _) = Appends old new bytes
+AppendsPrefix old new bytes (Err _) = (prefix : List ℕ) × IsPrefix prefix bytes × Appends old new prefix
 
--- a file is open before and after, and grew by the bytes, or by a front of them where an error came
+-- a file is open before and after, and grew by the bytes, or by a prefix of them where an error came
 abbrev pub GrowsFile : {F X E : Type 0} → (F → Option (List ℕ)) → Option F → Option F → List ℕ → Result X E → Type 0
-GrowsFile contents (Some old) (Some new) bytes result = AppendsFront (contents old) (contents new) bytes result
+GrowsFile contents (Some old) (Some new) bytes result = AppendsPrefix (contents old) (contents new) bytes result
 GrowsFile contents _ _ bytes result = ⊥

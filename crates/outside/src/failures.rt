@@ -4,7 +4,7 @@ ghost use Rattle.outside.specs.Counting.{next_number};
 use basics::Seq;
 
 /// The calls of a form in memory that are to fail, by their numbers from 0, and the number of the next
-/// call. That number stops behind the last one that a list can name.
+/// call. That number stops after the last one that a list can name.
 #[derive(Drop)]
 pub(crate) struct Failures {
     failing: Seq<u64>,

@@ -38,7 +38,7 @@ fn say_piece<T: Say>(say: &mut T, piece: Piece<'_>) -> Result<(), Failed>
 }
 
 /// Says the pieces one after another, and takes no memory. The first piece that fails ends the saying:
-/// what is said then is a front of their text.
+/// what is said then is a prefix of their text.
 pub fn say_all<T: Say>(say: &mut T, pieces: &[Piece<'_>]) -> Result<(), Failed>
     ensures { Says (T.state say.old) (T.state say.new) (flat_map piece_text pieces.now) result }
 {

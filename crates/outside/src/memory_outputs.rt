@@ -1,6 +1,6 @@
 ghost use Rattle.std.specs.Prelude.{◌≡◌, ◌⊎◌, ℕ, List, [], None, Some, IsSome, IfOk, OnOk, OnErr, Contains, option_map};
 ghost use Rattle.outside.specs.Counting.{count_after, next_number};
-ghost use Rattle.outside.specs.Files.{put, add, IsFront};
+ghost use Rattle.outside.specs.Files.{put, add, IsPrefix};
 ghost use Rattle.outside.specs.FirstAt.{first_room, no_files};
 ghost use Rattle.outside.specs.MemoryOutputs.{files_of, room_of, begun_of, failing_of, next_of, faults_of};
 ghost use Rattle.outside.specs.Stored.{FitsAt, ExceedsAt, fitting_at, first_half};
@@ -79,7 +79,7 @@ impl Outputs for MemoryOutputs {
         ensures fails { OnErr result (Contains (failing_of self.old) (next_of self.old) ⊎ ExceedsAt (room_of self.old) (files_of self.old) (begun_of self.old) bytes.now) }
 
         ensures ok { OnOk result (files_of self.new ≡ add (files_of self.old) (begun_of self.old) bytes.now) }
-        ensures err { OnErr result ((front : List ℕ) × IsFront front bytes.now × (files_of self.new ≡ add (files_of self.old) (begun_of self.old) front)) }
+        ensures err { OnErr result ((prefix : List ℕ) × IsPrefix prefix bytes.now × (files_of self.new ≡ add (files_of self.old) (begun_of self.old) prefix)) }
         // A chosen call adds the first half of the bytes, and another that fails all of them, as far as they fit.
         ensures half { Contains (failing_of self.old) (next_of self.old) → files_of self.new ≡ add (files_of self.old) (begun_of self.old) (fitting_at (room_of self.old) (files_of self.old) (begun_of self.old) (first_half bytes.now)) }
         ensures cut { ¬ (Contains (failing_of self.old) (next_of self.old)) → OnErr result (files_of self.new ≡ add (files_of self.old) (begun_of self.old) (fitting_at (room_of self.old) (files_of self.old) (begun_of self.old) bytes.now)) }

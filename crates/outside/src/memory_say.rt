@@ -1,6 +1,6 @@
 ghost use Rattle.std.specs.Prelude.{◌≡◌, ◌⊎◌, ℕ, ◌+◌, ◌<◌, ◌≤◌, List, [], ◌++◌, length, IfOk, OnOk, OnErr, Contains};
 ghost use Rattle.outside.specs.Counting.{count_after, next_number};
-ghost use Rattle.outside.specs.Files.{IsFront};
+ghost use Rattle.outside.specs.Files.{IsPrefix};
 ghost use Rattle.outside.specs.MemorySay.{said_of, room_of, failing_of, next_of, faults_of};
 ghost use Rattle.outside.specs.Stored.{fitting, first_half};
 
@@ -49,7 +49,7 @@ impl Say for MemorySay {
         ensures fails { OnErr result (Contains (failing_of self.old) (next_of self.old) ⊎ (room_of self.old < length (said_of self.old) + length bytes.now)) }
 
         ensures ok { OnOk result (said_of self.new ≡ said_of self.old ++ bytes.now) }
-        ensures err { OnErr result ((front : List ℕ) × IsFront front bytes.now × (said_of self.new ≡ said_of self.old ++ front)) }
+        ensures err { OnErr result ((prefix : List ℕ) × IsPrefix prefix bytes.now × (said_of self.new ≡ said_of self.old ++ prefix)) }
         // A chosen call adds the first half of the bytes, and another that fails all of them, as far as they fit.
         ensures half { Contains (failing_of self.old) (next_of self.old) → said_of self.new ≡ said_of self.old ++ fitting (room_of self.old) (said_of self.old) (first_half bytes.now) }
         ensures cut { ¬ (Contains (failing_of self.old) (next_of self.old)) → OnErr result (said_of self.new ≡ said_of self.old ++ fitting (room_of self.old) (said_of self.old) bytes.now) }

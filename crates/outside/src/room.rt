@@ -47,7 +47,7 @@ impl Room {
         self.bytes.clear();
     }
 
-    /// Adds the front of the piece that fits, which takes no memory, and answers whether it is the
+    /// Adds the start of the piece that fits, which takes no memory, and answers whether it is the
     /// whole piece.
     pub(crate) fn add(&mut self, piece: &[u8]) -> bool
         ensures fits { IsTrue result ↔ (length self.old.bytes + length piece.now ≤ self.old.size) }

@@ -2,7 +2,7 @@ ghost use Rattle.std.specs.Prelude.{◌≡◌, ◌^◌, ◌≤◌, IfOk};
 ghost use Rattle.std.specs.Io.{ReadsAtMost, WritesAtMost};
 ghost use Rattle.std.specs.Io.KnownBytes.{ReadConsumes, WriteAppends};
 ghost use Rattle.outside.specs.Found.{IsWithin};
-ghost use Rattle.outside.specs.Stream.{FindsKnown, IsCounted, CountsKnown, AppendsFront};
+ghost use Rattle.outside.specs.Stream.{FindsKnown, IsCounted, CountsKnown, AppendsPrefix};
 
 use crate::traits::{Failed, Found, ReadError};
 use std::alloc::Global;
@@ -100,9 +100,9 @@ pub(crate) fn read_within<F: Read>(
     Err(ReadError::Failed)
 }
 
-/// Writes all of the bytes, or fails after a front of them.
+/// Writes all of the bytes, or fails after a prefix of them.
 pub(crate) fn write_whole<W: Write>(writer: &mut W, bytes: &[u8]) -> Result<(), Failed>
-    ensures { AppendsFront (W.contents writer.old) (W.contents writer.new) bytes.now result }
+    ensures { AppendsPrefix (W.contents writer.old) (W.contents writer.new) bytes.now result }
 {
     let mut rest = bytes;
     while !rest.is_empty() {

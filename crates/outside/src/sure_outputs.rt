@@ -1,9 +1,9 @@
 ghost use Rattle.std.specs.Prelude.{◌≡◌, ℕ, List, [], None, Some, IsSome, IfOk, OnOk, OnErr, option_map};
 ghost use Rattle.std.specs.Bool.{OnTrue, OnFalse};
 ghost use Rattle.std.proofs.Props.{props};
-ghost use Rattle.outside.specs.Placed.{paths_of, IsFirst};
+ghost use Rattle.outside.specs.SlotState.{paths_of, IsFirst};
 
-use crate::places::Places;
+use crate::slots::Slots;
 use crate::traits::{Failed, Outputs};
 use basics::{Name, NoMemory, Seq};
 use std::alloc::Global;
@@ -12,10 +12,10 @@ use std::alloc::Global;
 /// room.
 #[derive(Drop)]
 pub struct SureOutputs {
-    places: Places,
+    slots: Slots,
     current: Option<usize>,
     faults: u64,
-    ghost first: { IsFirst (paths_of places) current } by { Prim.hlevel props },
+    ghost first: { IsFirst (paths_of slots) current } by { Prim.hlevel props },
 }
 
 impl SureOutputs {
@@ -33,9 +33,9 @@ impl SureOutputs {
         ensures begun { IfOk result (λ outputs. begun_of outputs ≡ None) }
         ensures faults { IfOk result (λ outputs. faults_of outputs ≡ 0) }
     {
-        let places = Places::new(alloc, rooms)?;
+        let slots = Slots::new(alloc, rooms)?;
         Ok(SureOutputs {
-            places,
+            slots,
             current: None,
             faults: 0,
         })
@@ -45,10 +45,10 @@ impl SureOutputs {
     pub fn held(&self, path: &str) -> Option<&[u8]>
         ensures { option_map (λ bytes. bytes.now) result ≡ files_of self.now path.now }
     {
-        self.places.held(path)
+        self.slots.held(path)
     }
 
-    /// Adds the front of the piece that fits at the path that is begun, and answers whether it is the
+    /// Adds the start of the piece that fits at the path that is begun, and answers whether it is the
     /// whole piece.
     fn add(&mut self, piece: &[u8]) -> bool
         requires { IsSome (begun_of self.old) }
@@ -61,12 +61,12 @@ impl SureOutputs {
         ensures faults { faults_of self.new ≡ faults_of self.old }
     {
         match self.current {
-            Some(index) => self.places.add(index, piece),
+            Some(index) => self.slots.add(index, piece),
             None => unreachable!(),
         }
     }
 
-    /// Adds the front of the piece that fits at the path that is begun, and counts a fault.
+    /// Adds the start of the piece that fits at the path that is begun, and counts a fault.
     pub(crate) fn cut_short(&mut self, piece: &[u8])
         requires { IsSome (begun_of self.old) }
         ensures added { files_of self.new ≡ add (files_of self.old) (begun_of self.old) (fitting_at (room_of self.old) (files_of self.old) (begun_of self.old) piece.now) }
@@ -92,7 +92,7 @@ impl SureOutputs {
 
 impl Outputs for SureOutputs {
     ghost use Rattle.outside.specs.Counting.{count_after};
-    ghost use Rattle.outside.specs.Files.{put, add, IsFront};
+    ghost use Rattle.outside.specs.Files.{put, add, IsPrefix};
     ghost use Rattle.outside.specs.Stored.{FitsAt, ExceedsAt, fitting_at};
     ghost use Rattle.outside.specs.SureOutputs.{files_of, room_of, begun_of, faults_of};
 
@@ -108,7 +108,7 @@ impl Outputs for SureOutputs {
         ensures counted { faults_of self.new ≡ count_after (faults_of self.old) result }
         ensures room { room_of self.new ≡ room_of self.old }
     {
-        let Some(index) = self.places.begin(path) else {
+        let Some(index) = self.slots.begin(path) else {
             self.end();
             return Err(Failed);
         };
@@ -122,7 +122,7 @@ impl Outputs for SureOutputs {
         ensures full { OnErr result (ExceedsAt (room_of self.old) (files_of self.old) (begun_of self.old) bytes.now) }
         ensures ok { OnOk result (files_of self.new ≡ add (files_of self.old) (begun_of self.old) bytes.now) }
         ensures cut { OnErr result (files_of self.new ≡ add (files_of self.old) (begun_of self.old) (fitting_at (room_of self.old) (files_of self.old) (begun_of self.old) bytes.now)) }
-        ensures err { OnErr result ((front : List ℕ) × IsFront front bytes.now × (files_of self.new ≡ add (files_of self.old) (begun_of self.old) front)) }
+        ensures err { OnErr result ((prefix : List ℕ) × IsPrefix prefix bytes.now × (files_of self.new ≡ add (files_of self.old) (begun_of self.old) prefix)) }
         ensures begun { begun_of self.new ≡ begun_of self.old }
         ensures counted { faults_of self.new ≡ count_after (faults_of self.old) result }
         ensures room { room_of self.new ≡ room_of self.old }

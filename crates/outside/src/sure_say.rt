@@ -1,6 +1,6 @@
 ghost use Rattle.std.specs.Prelude.{◌≡◌, ℕ, ◌+◌, ◌<◌, ◌≤◌, List, [], ◌++◌, length, IfOk, OnOk, OnErr};
 ghost use Rattle.outside.specs.Counting.{one_more, count_after};
-ghost use Rattle.outside.specs.Files.{IsFront};
+ghost use Rattle.outside.specs.Files.{IsPrefix};
 ghost use Rattle.outside.specs.Stored.{fitting};
 ghost use Rattle.outside.specs.SureSay.{said_of, room_of, faults_of};
 
@@ -34,7 +34,7 @@ impl SureSay {
         self.room.as_slice()
     }
 
-    /// Adds the front of the piece that fits, and counts a fault.
+    /// Adds the start of the piece that fits, and counts a fault.
     pub(crate) fn cut_short(&mut self, piece: &[u8])
         ensures said { said_of self.new ≡ said_of self.old ++ fitting (room_of self.old) (said_of self.old) piece.now }
         ensures counted { faults_of self.new ≡ one_more (faults_of self.old) }
@@ -52,7 +52,7 @@ impl Say for SureSay {
         ensures fits { OnOk result (length (said_of self.old) + length bytes.now ≤ room_of self.old) }
         ensures full { OnErr result (room_of self.old < length (said_of self.old) + length bytes.now) }
         ensures ok { OnOk result (said_of self.new ≡ said_of self.old ++ bytes.now) }
-        ensures err { OnErr result ((front : List ℕ) × IsFront front bytes.now × (said_of self.new ≡ said_of self.old ++ front)) }
+        ensures err { OnErr result ((prefix : List ℕ) × IsPrefix prefix bytes.now × (said_of self.new ≡ said_of self.old ++ prefix)) }
         ensures cut { OnErr result (said_of self.new ≡ said_of self.old ++ fitting (room_of self.old) (said_of self.old) bytes.now) }
         ensures counted { faults_of self.new ≡ count_after (faults_of self.old) result }
         ensures room { room_of self.new ≡ room_of self.old }

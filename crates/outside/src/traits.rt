@@ -1,6 +1,6 @@
 ghost use Rattle.std.specs.Prelude.{◌≡◌, ℕ, ◌+◌, ◌≤◌, ◌<◌, List, [], ◌++◌, length, Option, None, Some, Result, IsSome, IfOk, OnOk, OnErr};
 ghost use Rattle.outside.specs.States.{SourcesState, OutputsState, SayState};
-ghost use Rattle.outside.specs.Files.{put, add, content, IsFront, HasRisen, Counts, Exceeds};
+ghost use Rattle.outside.specs.Files.{put, add, content, IsPrefix, HasRisen, Counts, Exceeds};
 ghost use Rattle.outside.specs.Found.{Finds, IsWithin, CountsReads, NeverFails};
 
 use std::alloc::Global;
@@ -70,30 +70,30 @@ pub trait Outputs {
         ensures no_room { (state self.old).is_sure → OnErr result ((state self.old).room path.now ≡ None) };
 
     /// Adds the bytes at the end of the path begun last, which stays begun. A failed `append` adds a
-    /// front of the bytes.
+    /// prefix of the bytes.
     fn append(&mut self, bytes: &[u8]) -> Result<(), Failed>
         requires { IsSome (state self.old).begun }
         ensures told { (state self.old).tells → (state self.new).tells }
         ensures begun { (state self.new).begun ≡ (state self.old).begun }
         ensures ok { (state self.old).tells → OnOk result ((state self.new).files ≡ add (state self.old).files (state self.old).begun bytes.now) }
-        ensures err { (state self.old).tells → OnErr result ((front : List ℕ) × IsFront front bytes.now × ((state self.new).files ≡ add (state self.old).files (state self.old).begun front)) }
+        ensures err { (state self.old).tells → OnErr result ((prefix : List ℕ) × IsPrefix prefix bytes.now × ((state self.new).files ≡ add (state self.old).files (state self.old).begun prefix)) }
         ensures counted { Counts (state self.old).faults (state self.new).faults result }
         ensures sure { (state self.old).is_sure → (state self.new).is_sure × ((state self.new).room ≡ (state self.old).room) }
         ensures full { (state self.old).is_sure → (state self.old).tells → (path : List ℕ) → (state self.old).begun ≡ Some path → OnErr result (Exceeds ((state self.old).room path) (length (content (state self.old).files path)) (length bytes.now)) };
 }
 
-/// A place to say text.
+/// Where text is said.
 ///
 /// Its state is told by one record. Where it `tells`, `said` is all that was said. `faults` counts the calls
 /// that failed, and never falls. One that `is_sure` fails only where the text said would exceed its `room`.
 pub trait Say {
     ghost state: { Self → SayState };
 
-    /// Adds the bytes to the text said. A call that fails adds a front of them.
+    /// Adds the bytes to the text said. A call that fails adds a prefix of them.
     fn say(&mut self, bytes: &[u8]) -> Result<(), Failed>
         ensures told { (state self.old).tells → (state self.new).tells }
         ensures ok { (state self.old).tells → OnOk result ((state self.new).said ≡ (state self.old).said ++ bytes.now) }
-        ensures err { (state self.old).tells → OnErr result ((front : List ℕ) × IsFront front bytes.now × ((state self.new).said ≡ (state self.old).said ++ front)) }
+        ensures err { (state self.old).tells → OnErr result ((prefix : List ℕ) × IsPrefix prefix bytes.now × ((state self.new).said ≡ (state self.old).said ++ prefix)) }
         ensures counted { Counts (state self.old).faults (state self.new).faults result }
         ensures sure { (state self.old).is_sure → (state self.new).is_sure × ((state self.new).room ≡ (state self.old).room) }
         ensures full { (state self.old).is_sure → (state self.old).tells → OnErr result ((state self.old).room < length (state self.old).said + length bytes.now) };

@@ -1,4 +1,4 @@
--- Packed deltas in maximal runs: a run in front of packed ones, and how many bytes they take.
+-- Packed deltas in maximal runs: a run before packed ones, and how many bytes they take.
 use Rattle.std.proofs.Common.{◌≡◌, ℕ, ℤ, ◌*◌, ◌<◌, ◌≤◌, List, [], ◌∷◌, ◌++◌, length, get_or, All, FitsSigned, refl, sym, ap, subst, ◌∙◌, arith, length-append, append_assoc}
 use Rattle.std.proofs.lemmas.List.{length-map, append-nil}
 use Rattle.std.specs.Int.{w8, w16, cast_unsigned}
@@ -11,7 +11,7 @@ use Rattle.variation_rules.specs.declared.runs.DeltaClass.{DeltaClass}
 use Rattle.variation_rules.specs.declared.runs.DeltaClass.TheVariants.{Zeros, Bytes, Words}
 use Rattle.packed.specs.FirstRun.{GoesOn, BeginsWithRun}
 use Rattle.packed.proofs.FirstRun.{AreOwn}
-use Rattle.packed.proofs.RunLists.{AreLong, AreWhole, all_of_both, long_in_front}
+use Rattle.packed.proofs.RunLists.{AreLong, AreWhole, all_of_both, long_before}
 
 -- the class and the values of a run
 abbrev pub class : DeltaRun → DeltaClass
@@ -56,15 +56,15 @@ own_held Words value fits own = fits
 pub all_held : (class : DeltaClass) (run : List ℤ) → All (FitsSigned w16) run → AreOwn class_of_delta class run → All (HoldsDelta class) run
 all_held class run fits own k d h = own_held class (get_or run k d) (fits k d h) (own k d h)
 
--- the first run, and behind it what stands for the values after it, stand for all the values
-in_front : (class : DeltaClass) (run after values : List ℤ) (tail : List ℕ) → BeginsWithRun class_of_delta 64 class run after values → All (FitsSigned w16) values → PacksDeltas tail after → PacksDeltas (delta_bytes class run ++ tail) values
-in_front class run after values tail begins fits packed =
+-- the first run, and after it what stands for the values after it, stand for all the values
+run_before : (class : DeltaClass) (run after values : List ℤ) (tail : List ℕ) → BeginsWithRun class_of_delta 64 class run after values → All (FitsSigned w16) values → PacksDeltas tail after → PacksDeltas (delta_bytes class run ++ tail) values
+run_before class run after values tail begins fits packed =
     let this : DeltaRun = record { class = class; values = run } in
     let both = all_of_both (FitsSigned w16) run after (subst (All (FitsSigned w16)) begins.whole fits) in
     let held : All (HoldsDelta class) run = all_held class run both.0 begins.own in
     let full : GoesOn class_of_delta class (values_of packed.runs) → length run ≡ 64 = subst (λ (rest : List ℤ). GoesOn class_of_delta class rest → length run ≡ 64) packed.are.meant begins.long in
     let whole = to_whole packed.runs packed.are.each packed.own in
-    let long = long_in_front class_of_delta 64 (λ (r : DeltaRun). r.class) (λ (r : DeltaRun). r.values) this packed.runs full whole (to_long packed.runs packed.long) in
+    let long = long_before class_of_delta 64 (λ (r : DeltaRun). r.class) (λ (r : DeltaRun). r.values) this packed.runs full whole (to_long packed.runs packed.long) in
     record {
       runs = this ∷ packed.runs;
       are = record {
@@ -76,11 +76,11 @@ in_front class run after values tail begins fits packed =
       long = from_long (this ∷ packed.runs) long;
     }
 
--- the same behind bytes that are written already: the run is added to them
+-- the same after bytes that are written already: the run is added to them
 pub run_added : (class : DeltaClass) (run after values : List ℤ) (before now tail : List ℕ) (all : List ℤ) → BeginsWithRun class_of_delta 64 class run after values → All (FitsSigned w16) values → now ≡ before ++ delta_bytes class run → PacksDeltas tail after → ((rest : List ℕ) → PacksDeltas rest values → PacksDeltas (before ++ rest) all) → PacksDeltas (now ++ tail) all
 run_added class run after values before now tail all begins fits added packed completes =
     let joined : now ++ tail ≡ before ++ (delta_bytes class run ++ tail) = ap (λ bytes. bytes ++ tail) added ∙ append_assoc before (delta_bytes class run) tail in
-    subst (λ (bytes : List ℕ). PacksDeltas bytes all) (sym joined) (completes (delta_bytes class run ++ tail) (in_front class run after values tail begins fits packed))
+    subst (λ (bytes : List ℕ). PacksDeltas bytes all) (sym joined) (completes (delta_bytes class run ++ tail) (run_before class run after values tail begins fits packed))
 
 -- no values are packed in no bytes
 none_packed : PacksDeltas [] []

@@ -94,7 +94,7 @@ module _ {X C : Type 0} (class_of : X → C) (same : C → C → Bool) (longest 
       let passes = prefix_len_passes (in_class class) (take longest values) k d before in
       tells.true_is _ _ (subst (λ (value : X). in_class class value ≡ true) (counted_at class values k d before) passes)
 
-  -- the value behind the counted ones, where there is one and the run isn't full, is of another class
+  -- the value after the counted ones, where there is one and the run isn't full, is of another class
   stops : TellsSame same → (class : C) (values : List X) (d : X) → count_in class values < longest → count_in class values < length values → GoesOn class_of class (drop (count_in class values) values) → ⊥
   stops tells class values d below inside goes =
       let next : X = get_or values (count_in class values) d in
@@ -134,9 +134,9 @@ module _ {X C : Type 0} (class_of : X → C) (same : C → C → Bool) (longest 
 
   -- the same of what `split_at` gives at their number
   pub first_run : TellsSame same → 0 < longest → (class : C) (run after values : List X) (n : ℕ) (d : X) → 0 < length values → class ≡ class_of (get_or values 0 d) → n ≡ count_in class values → run ≡ take n values → after ≡ drop n values → BeginsWithRun class_of longest class run after values
-  first_run tells room class run after values n d some first count front back =
-      let front_is : take (count_in class values) values ≡ run = sym (front ∙ ap (λ k. take k values) count) in
+  first_run tells room class run after values n d some first count prefix back =
+      let prefix_is : take (count_in class values) values ≡ run = sym (prefix ∙ ap (λ k. take k values) count) in
       let back_is : drop (count_in class values) values ≡ after = sym (back ∙ ap (λ k. drop k values) count) in
       let begins = counted_run tells room class values d some first in
-      let with_run = subst (λ (r : List X). BeginsWithRun class_of longest class r (drop (count_in class values) values) values) front_is begins in
+      let with_run = subst (λ (r : List X). BeginsWithRun class_of longest class r (drop (count_in class values) values) values) prefix_is begins in
       subst (λ (a : List X). BeginsWithRun class_of longest class run a values) back_is with_run

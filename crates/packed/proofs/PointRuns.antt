@@ -1,4 +1,4 @@
--- Packed points: their differences, a run in front of packed ones, the count, and how many bytes they take.
+-- Packed points: their differences, a run before packed ones, the count, and how many bytes they take.
 use Rattle.std.proofs.Common.{◌≡◌, ℕ, ◌+◌, ◌*◌, ◌^◌, ◌<◌, ◌≤◌, inl, inr, List, [], ◌∷◌, ◌++◌, length, get_or, All, refl, sym, ap, subst, ◌∙◌, arith, length-append, append_assoc}
 use Rattle.std.proofs.lemmas.List.{append-nil}
 use Rattle.std.specs.List.{flat_map}
@@ -11,7 +11,7 @@ use Rattle.variation_rules.specs.declared.runs.PointClass.TheVariants.{Bytes, Wo
 use Rattle.packed.specs.Differences.{PacksDifferences, AddsDifferences, count_bytes}
 use Rattle.packed.specs.FirstRun.{GoesOn, BeginsWithRun}
 use Rattle.packed.proofs.FirstRun.{AreOwn}
-use Rattle.packed.proofs.RunLists.{AreLong, AreWhole, all_of_both, long_in_front}
+use Rattle.packed.proofs.RunLists.{AreLong, AreWhole, all_of_both, long_before}
 
 -- the class and the differences of a run
 abbrev pub class : PointRun → PointClass
@@ -55,15 +55,15 @@ own_held Words difference fits own = fits
 pub all_held : (class : PointClass) (run : List ℕ) → All (λ d. d < 2 ^ 16) run → AreOwn class_of_difference class run → All (HoldsDifference class) run
 all_held class run fits own k d h = own_held class (get_or run k d) (fits k d h) (own k d h)
 
--- the first run, and behind it what stands for the differences after it, stand for all of them
-in_front : (class : PointClass) (run after values tail : List ℕ) → BeginsWithRun class_of_difference 128 class run after values → All (λ d. d < 2 ^ 16) values → PacksDifferences tail after → PacksDifferences (point_bytes class run ++ tail) values
-in_front class run after values tail begins fits packed =
+-- the first run, and after it what stands for the differences after it, stand for all of them
+run_before : (class : PointClass) (run after values tail : List ℕ) → BeginsWithRun class_of_difference 128 class run after values → All (λ d. d < 2 ^ 16) values → PacksDifferences tail after → PacksDifferences (point_bytes class run ++ tail) values
+run_before class run after values tail begins fits packed =
     let this : PointRun = record { class = class; differences = run } in
     let both = all_of_both (λ d. d < 2 ^ 16) run after (subst (All (λ d. d < 2 ^ 16)) begins.whole fits) in
     let held : All (HoldsDifference class) run = all_held class run both.0 begins.own in
     let full : GoesOn class_of_difference class (differences_of packed.runs) → length run ≡ 128 = subst (λ (rest : List ℕ). GoesOn class_of_difference class rest → length run ≡ 128) packed.meant begins.long in
     let whole = to_whole packed.runs packed.each packed.own in
-    let long = long_in_front class_of_difference 128 (λ (r : PointRun). r.class) (λ (r : PointRun). r.differences) this packed.runs full whole (to_long packed.runs packed.long) in
+    let long = long_before class_of_difference 128 (λ (r : PointRun). r.class) (λ (r : PointRun). r.differences) this packed.runs full whole (to_long packed.runs packed.long) in
     record {
       runs = this ∷ packed.runs;
       each = All-cons IsPointRun this packed.runs (record { some = begins.some; few = begins.few; held = held }) packed.each;
@@ -73,11 +73,11 @@ in_front class run after values tail begins fits packed =
       long = from_long (this ∷ packed.runs) long;
     }
 
--- the same behind bytes that are written already: the run is added to them
+-- the same after bytes that are written already: the run is added to them
 pub run_added : (class : PointClass) (run after values before now tail old all : List ℕ) → BeginsWithRun class_of_difference 128 class run after values → All (λ d. d < 2 ^ 16) values → now ≡ before ++ point_bytes class run → PacksDifferences tail after → ((rest : List ℕ) → PacksDifferences rest values → AddsDifferences old (before ++ rest) all) → AddsDifferences old (now ++ tail) all
 run_added class run after values before now tail old all begins fits added packed completes =
     let joined : now ++ tail ≡ before ++ (point_bytes class run ++ tail) = ap (λ bytes. bytes ++ tail) added ∙ append_assoc before (point_bytes class run) tail in
-    subst (λ (bytes : List ℕ). AddsDifferences old bytes all) (sym joined) (completes (point_bytes class run ++ tail) (in_front class run after values tail begins fits packed))
+    subst (λ (bytes : List ℕ). AddsDifferences old bytes all) (sym joined) (completes (point_bytes class run ++ tail) (run_before class run after values tail begins fits packed))
 
 -- no differences are packed in no bytes
 none_packed : PacksDifferences [] []
@@ -148,7 +148,7 @@ listed total points differences counts bytes some few rises leads count adds =
         some = some;
         count = counted (length points) (omega arith);
         each = packs.each;
-        spelled = adds.behind ∙ ap (λ c. c ++ adds.added) count ∙ ap (λ b. count_bytes (length points) ++ b) packs.spelled;
+        spelled = adds.beyond ∙ ap (λ c. c ++ adds.added) count ∙ ap (λ b. count_bytes (length points) ++ b) packs.spelled;
         meant = leads ∙ ap (points_after 0) packs.meant;
         rises = rises;
       };
@@ -161,7 +161,7 @@ listed total points differences counts bytes some few rises leads count adds =
 pub listed_length : (points differences counts bytes : List ℕ) → points ≡ points_after 0 differences → counts ≡ count_bytes (length points) → AddsDifferences counts bytes differences → length bytes ≤ 2 + 3 * length points
 listed_length points differences counts bytes leads count adds =
     let packs = adds.packs in
-    omega (arith, ap length adds.behind, length-append counts adds.added, ap length count, count_length (length points), ap length leads, points_length 0 differences, ap length packs.spelled, ap length packs.meant, runs_length packs.runs packs.each)
+    omega (arith, ap length adds.beyond, length-append counts adds.added, ap length count, count_length (length points), ap length leads, points_length 0 differences, ap length packs.spelled, ap length packs.meant, runs_length packs.runs packs.each)
 
 is_count_length : (count : ℕ) (bytes : List ℕ) → IsCount count bytes → length bytes ≤ 2
 is_count_length count bytes (inl short) = omega (arith, ap length short.1)

@@ -1,4 +1,4 @@
--- Lists of runs, of deltas or of differences: a run in front of others, and that one list of values is cut into
+-- Lists of runs, of deltas or of differences: a run before others, and that one list of values is cut into
 -- maximal runs in one way. A run R has a class and values; `class_of` is the class of a value, and `longest` the
 -- most values of a run.
 use Rattle.std.proofs.Common.{◌≡◌, ℕ, ◌<◌, ◌≤◌, List, [], ◌∷◌, ◌++◌, length, All, refl, sym, ap, subst, ◌∙◌, arith, length-append}
@@ -8,23 +8,23 @@ use Rattle.packed.specs.FirstRun.{GoesOn}
 use Rattle.packed.proofs.FirstRun.{AreOwn}
 
 -- what holds of each value of two joined lists holds of each value of the one and of the other
-pub all_of_both : {X : Type 0} (P : X → Type 0) (front back : List X) → All P (front ++ back) → All P front × All P back
+pub all_of_both : {X : Type 0} (P : X → Type 0) (prefix back : List X) → All P (prefix ++ back) → All P prefix × All P back
 all_of_both P [] back all = (All-nil P, all)
-all_of_both P (value ∷ front) back all =
-    let rest = all_of_both P front back (All-tail P value (front ++ back) all) in
-    (All-cons P value front (All-head P value (front ++ back) all) rest.0, rest.1)
+all_of_both P (value ∷ prefix) back all =
+    let rest = all_of_both P prefix back (All-tail P value (prefix ++ back) all) in
+    (All-cons P value prefix (All-head P value (prefix ++ back) all) rest.0, rest.1)
 
--- Of two ways to cut one list, they cut at one place, or the second cuts behind the first, or before it.
+-- Of two ways to cut one list, they cut at one index, or the second cuts after the first, or before it.
 by_cut : {P X : Type 0} (a b c d : List X) → a ++ b ≡ c ++ d → (a ≡ c → b ≡ d → P) → ((v : X) (w : List X) → c ≡ a ++ v ∷ w → b ≡ (v ∷ w) ++ d → P) → ((v : X) (w : List X) → a ≡ c ++ v ∷ w → d ≡ (v ∷ w) ++ b → P) → P
-by_cut [] b [] d e same behind before = same refl e
-by_cut [] b (v ∷ w) d e same behind before = behind v w refl e
-by_cut (v ∷ w) b [] d e same behind before = before v w refl (sym e)
-by_cut (x ∷ a) b (y ∷ c) d e same behind before =
+by_cut [] b [] d e same beyond before = same refl e
+by_cut [] b (v ∷ w) d e same beyond before = beyond v w refl e
+by_cut (v ∷ w) b [] d e same beyond before = before v w refl (sym e)
+by_cut (x ∷ a) b (y ∷ c) d e same beyond before =
     let first : x ≡ y = cc in
     let rest : a ++ b ≡ c ++ d = cc in
     by_cut a b c d rest
     (λ p q. let whole : x ∷ a ≡ y ∷ c = cc in same whole q)
-    (λ v w p q. let whole : y ∷ c ≡ x ∷ (a ++ v ∷ w) = cc in behind v w whole q)
+    (λ v w p q. let whole : y ∷ c ≡ x ∷ (a ++ v ∷ w) = cc in beyond v w whole q)
     (λ v w p q. let whole : x ∷ a ≡ y ∷ (c ++ v ∷ w) = cc in before v w whole q)
 
 -- what a run in a list of maximal runs is: some values, at most `longest`, each of the run's class
@@ -49,14 +49,14 @@ module _ {X C R : Type 0} (class_of : X → C) (longest : ℕ) (class : R → C)
   AreLong (run ∷ next ∷ runs) = (class run ≡ class next → length (values run) ≡ longest) × AreLong (next ∷ runs)
 
   -- values that begin with some of one class go on with that class
-  goes_on : (one next : C) (front rest : List X) → 0 < length front → AreOwn class_of next front → one ≡ next → GoesOn class_of one (front ++ rest)
+  goes_on : (one next : C) (prefix rest : List X) → 0 < length prefix → AreOwn class_of next prefix → one ≡ next → GoesOn class_of one (prefix ++ rest)
   goes_on one next [] rest some own same = absurd (omega arith)
-  goes_on one next (value ∷ front) rest some own same = All-head (λ v. class_of v ≡ next) value front own ∙ sym same
+  goes_on one next (value ∷ prefix) rest some own same = All-head (λ v. class_of v ≡ next) value prefix own ∙ sym same
 
   -- a run before others is followed by a value of its class only where it is full
-  pub long_in_front : (run : R) (runs : List R) → (GoesOn class_of (class run) (values_of runs) → length (values run) ≡ longest) → AreWhole runs → AreLong runs → AreLong (run ∷ runs)
-  long_in_front run [] full whole long = tt
-  long_in_front run (next ∷ runs) full whole long =
+  pub long_before : (run : R) (runs : List R) → (GoesOn class_of (class run) (values_of runs) → length (values run) ≡ longest) → AreWhole runs → AreLong runs → AreLong (run ∷ runs)
+  long_before run [] full whole long = tt
+  long_before run (next ∷ runs) full whole long =
       let first = All-head (λ r. IsWholeRun class_of longest (class r) (values r)) next runs whole in
       (λ same. full (goes_on (class run) (class next) (values next) (values_of runs) first.some first.own same), long)
 
@@ -69,8 +69,8 @@ module _ {X C R : Type 0} (class_of : X → C) (longest : ℕ) (class : R → C)
       sym (All-head (λ v. class_of v ≡ k) x a own) ∙ ap class_of first ∙ All-head (λ v. class_of v ≡ l) y c other
 
   -- a run that is as long as it can be doesn't end before another run of the same list and class
-  not_behind : (one : C) (a b c d : List X) (v : X) (w : List X) → (GoesOn class_of one b → length a ≡ longest) → AreOwn class_of one c → length c ≤ longest → c ≡ a ++ v ∷ w → b ≡ (v ∷ w) ++ d → ⊥
-  not_behind one a b c d v w long own few cut rest =
+  not_after : (one : C) (a b c d : List X) (v : X) (w : List X) → (GoesOn class_of one b → length a ≡ longest) → AreOwn class_of one c → length c ≤ longest → c ≡ a ++ v ∷ w → b ≡ (v ∷ w) ++ d → ⊥
+  not_after one a b c d v w long own few cut rest =
       let more = (all_of_both (λ value. class_of value ≡ one) a (v ∷ w) (subst (AreOwn class_of one) cut own)).1 in
       let next : class_of v ≡ one = All-head (λ value. class_of value ≡ one) v w more in
       let full : length a ≡ longest = long (subst (GoesOn class_of one) (sym rest) next) in
@@ -80,13 +80,13 @@ module _ {X C R : Type 0} (class_of : X → C) (longest : ℕ) (class : R → C)
   one_first : (one : C) (a b c d : List X) → AreOwn class_of one a → AreOwn class_of one c → length a ≤ longest → length c ≤ longest → (GoesOn class_of one b → length a ≡ longest) → (GoesOn class_of one d → length c ≡ longest) → a ++ b ≡ c ++ d → (a ≡ c) × (b ≡ d)
   one_first one a b c d own other few many long longer e =
       by_cut a b c d e (λ p q. (p, q))
-      (λ v w p q. absurd (not_behind one a b c d v w long other many p q))
-      (λ v w p q. absurd (not_behind one c d a b v w longer own few p q))
+      (λ v w p q. absurd (not_after one a b c d v w long other many p q))
+      (λ v w p q. absurd (not_after one c d a b v w longer own few p q))
 
   -- values of one class that go on with a class are of that class
-  class_first : (one next : C) (front rest : List X) → 0 < length front → AreOwn class_of next front → GoesOn class_of one (front ++ rest) → one ≡ next
+  class_first : (one next : C) (prefix rest : List X) → 0 < length prefix → AreOwn class_of next prefix → GoesOn class_of one (prefix ++ rest) → one ≡ next
   class_first one next [] rest some own goes = absurd (omega arith)
-  class_first one next (value ∷ front) rest some own goes = sym goes ∙ All-head (λ v. class_of v ≡ next) value front own
+  class_first one next (value ∷ prefix) rest some own goes = sym goes ∙ All-head (λ v. class_of v ≡ next) value prefix own
 
   -- a run before others is full where a value of its class follows
   long_first : (run : R) (runs : List R) → AreWhole runs → AreLong (run ∷ runs) → GoesOn class_of (class run) (values_of runs) → length (values run) ≡ longest

@@ -3,7 +3,7 @@ use Rattle.std.specs.Prelude.{◌≡◌, ℕ, ◌+◌, ◌/◌, ◌%◌, List, [
 use Rattle.std.specs.List.{flat_map}
 use Rattle.variation_rules.specs.PackedPoints.{PointRun, IsPointRun, AreLongPointRuns, class_of_difference, point_bytes}
 
--- the number of points listed, in one byte below 128, else in two behind the flag 0x80
+-- the number of points listed, in one byte below 128, else in two after the flag 0x80
 abbrev pub count_bytes : ℕ → List ℕ
 count_bytes count = if nat_lt count 128 then count ∷ [] else ((128 + count / 256) ∷ count % 256 ∷ [])
 
@@ -16,8 +16,8 @@ pub record PacksDifferences (bytes differences : List ℕ) : Type 0 where
   pub own : All (λ run. All (λ difference. class_of_difference difference ≡ run.class) run.differences) runs
   pub long : AreLongPointRuns runs
 
--- behind the old bytes stand such bytes
+-- after the old bytes stand such bytes
 pub record AddsDifferences (old new differences : List ℕ) : Type 0 where
   pub added : List ℕ
-  pub behind : new ≡ old ++ added
+  pub beyond : new ≡ old ++ added
   pub packs : PacksDifferences added differences

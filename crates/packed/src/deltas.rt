@@ -6,8 +6,8 @@ ghost use Rattle.variation_rules.specs.PackedDeltas.{PacksDeltas, HoldsDelta, cl
 ghost use Rattle.packed.specs.Classes.{same_delta_class};
 ghost use Rattle.packed.specs.FirstRun.{BeginsWithRun};
 
-use be_bytes::{put_i16, put_u8};
 use basics::NoMemory;
+use be_bytes::{put_i16, put_u8};
 use std::alloc::Global;
 use variation_rules::DeltaClass;
 

@@ -10,5 +10,5 @@ mod points;
 mod tests;
 
 pub use deltas::pack_deltas;
-pub use laws::one_spelling;
+pub use laws::spelling_law;
 pub use points::pack_points;

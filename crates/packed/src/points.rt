@@ -6,8 +6,8 @@ ghost use Rattle.packed.specs.Classes.{same_point_class};
 ghost use Rattle.packed.specs.Differences.{AddsDifferences, count_bytes};
 ghost use Rattle.packed.specs.FirstRun.{BeginsWithRun};
 
-use be_bytes::{put_u8, put_u16};
 use basics::NoMemory;
+use be_bytes::{put_u8, put_u16};
 use std::alloc::Global;
 use variation_rules::PointClass;
 

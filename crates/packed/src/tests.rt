@@ -2,7 +2,7 @@ ghost use Rattle.std.specs.Prelude.{◌↔◌, ◌^◌, IsTrue, All, FitsSigned}
 ghost use Rattle.std.specs.Int.{w16};
 ghost use Rattle.variation_rules.specs.PackedPoints.{RisesWithin};
 
-use crate::{one_spelling, pack_deltas, pack_points};
+use crate::{pack_deltas, pack_points, spelling_law};
 use basics::NoMemory;
 use std::alloc::Global;
 use std::test::*;
@@ -162,14 +162,14 @@ fn deltas_by_hand(rt: HostRuntime) -> Result<(), Fail> {
     Ok(())
 }
 
-/// So many points from the first one on, with one difference, and the front, the back and the number of
+/// So many points from the first one on, with one difference, and the prefix, the back and the number of
 /// their bytes.
 struct ManyPoints {
     name: &'static str,
     first: u16,
     difference: u16,
     count: usize,
-    front: &'static [u8],
+    prefix: &'static [u8],
     back: &'static [u8],
     len: usize,
 }
@@ -180,7 +180,7 @@ const MANY_POINTS: [ManyPoints; 5] = [
         first: 0,
         difference: 1,
         count: 127,
-        front: &[0x7F, 0x7E, 0x00, 0x01],
+        prefix: &[0x7F, 0x7E, 0x00, 0x01],
         back: &[0x01],
         len: 129,
     },
@@ -189,7 +189,7 @@ const MANY_POINTS: [ManyPoints; 5] = [
         first: 0,
         difference: 1,
         count: 128,
-        front: &[0x80, 0x80, 0x7F, 0x00, 0x01],
+        prefix: &[0x80, 0x80, 0x7F, 0x00, 0x01],
         back: &[0x01, 0x01],
         len: 131,
     },
@@ -198,7 +198,7 @@ const MANY_POINTS: [ManyPoints; 5] = [
         first: 0,
         difference: 1,
         count: 129,
-        front: &[0x80, 0x81, 0x7F, 0x00, 0x01],
+        prefix: &[0x80, 0x81, 0x7F, 0x00, 0x01],
         back: &[0x01, 0x00, 0x01],
         len: 133,
     },
@@ -207,7 +207,7 @@ const MANY_POINTS: [ManyPoints; 5] = [
         first: 256,
         difference: 256,
         count: 129,
-        front: &[0x80, 0x81, 0xFF, 0x01, 0x00],
+        prefix: &[0x80, 0x81, 0xFF, 0x01, 0x00],
         back: &[0x01, 0x00, 0x80, 0x01, 0x00],
         len: 262,
     },
@@ -216,7 +216,7 @@ const MANY_POINTS: [ManyPoints; 5] = [
         first: 0,
         difference: 1,
         count: 4004,
-        front: &[0x8F, 0xA4, 0x7F, 0x00, 0x01],
+        prefix: &[0x8F, 0xA4, 0x7F, 0x00, 0x01],
         back: &[0x01, 0x01],
         len: 4038,
     },
@@ -245,18 +245,18 @@ fn many_points_by_hand(rt: HostRuntime) -> Result<(), Fail> {
         assert!(rt; !points.is_empty() && points.len() <= 4004 && rise(&points));
         let bytes = pack_points(rt.alloc(), &points)?;
         assert_eq!(rt; bytes.len(), case.len, "{}", case.name);
-        assert!(rt; bytes.starts_with(case.front), "{}", case.name);
+        assert!(rt; bytes.starts_with(case.prefix), "{}", case.name);
         assert!(rt; bytes.ends_with(case.back), "{}", case.name);
     }
     Ok(())
 }
 
-/// One value so many times, and the front, the back and the number of their bytes.
+/// One value so many times, and the prefix, the back and the number of their bytes.
 struct ManyDeltas {
     name: &'static str,
     value: i32,
     count: usize,
-    front: &'static [u8],
+    prefix: &'static [u8],
     back: &'static [u8],
     len: usize,
 }
@@ -266,7 +266,7 @@ const MANY_DELTAS: [ManyDeltas; 6] = [
         name: "a full run of zeros",
         value: 0,
         count: 64,
-        front: &[0xBF],
+        prefix: &[0xBF],
         back: &[0xBF],
         len: 1,
     },
@@ -274,7 +274,7 @@ const MANY_DELTAS: [ManyDeltas; 6] = [
         name: "one more zero than a run holds",
         value: 0,
         count: 65,
-        front: &[0xBF, 0x80],
+        prefix: &[0xBF, 0x80],
         back: &[0xBF, 0x80],
         len: 2,
     },
@@ -282,7 +282,7 @@ const MANY_DELTAS: [ManyDeltas; 6] = [
         name: "a full run of bytes",
         value: 1,
         count: 64,
-        front: &[0x3F, 0x01],
+        prefix: &[0x3F, 0x01],
         back: &[0x01, 0x01],
         len: 65,
     },
@@ -290,7 +290,7 @@ const MANY_DELTAS: [ManyDeltas; 6] = [
         name: "one more byte than a run holds",
         value: 1,
         count: 65,
-        front: &[0x3F, 0x01],
+        prefix: &[0x3F, 0x01],
         back: &[0x01, 0x00, 0x01],
         len: 67,
     },
@@ -298,7 +298,7 @@ const MANY_DELTAS: [ManyDeltas; 6] = [
         name: "one more word than a run holds",
         value: 300,
         count: 65,
-        front: &[0x7F, 0x01, 0x2C],
+        prefix: &[0x7F, 0x01, 0x2C],
         back: &[0x01, 0x2C, 0x40, 0x01, 0x2C],
         len: 132,
     },
@@ -306,7 +306,7 @@ const MANY_DELTAS: [ManyDeltas; 6] = [
         name: "as many words as a glyph may have points",
         value: 300,
         count: 4004,
-        front: &[0x7F, 0x01, 0x2C],
+        prefix: &[0x7F, 0x01, 0x2C],
         back: &[0x01, 0x2C, 0x01, 0x2C],
         len: 8071,
     },
@@ -324,7 +324,7 @@ fn many_deltas_by_hand(rt: HostRuntime) -> Result<(), Fail> {
         assert!(rt; are_words(&deltas));
         let bytes = pack_deltas(rt.alloc(), &deltas)?;
         assert_eq!(rt; bytes.len(), case.len, "{}", case.name);
-        assert!(rt; bytes.starts_with(case.front), "{}", case.name);
+        assert!(rt; bytes.starts_with(case.prefix), "{}", case.name);
         assert!(rt; bytes.ends_with(case.back), "{}", case.name);
     }
     Ok(())
@@ -332,5 +332,5 @@ fn many_deltas_by_hand(rt: HostRuntime) -> Result<(), Fail> {
 
 #[test]
 fn one_spelling_is_a_law() {
-    one_spelling();
+    spelling_law();
 }

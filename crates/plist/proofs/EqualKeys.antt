@@ -26,10 +26,10 @@ filter_none : {A : Type 0} (p : A → Bool) → ((a : A) → p a ≡ true) → (
 filter_none p each [] = refl
 filter_none p each (a ∷ all) = ap (λ b. cond b (a ∷ filter p all) (filter p all)) (each a) ∙ ap (λ later. a ∷ later) (filter_none p each all)
 
-joined : {A : Type 0} (p : A → Bool) (a : A) (front back : List A) (passes : Bool) → filter p front ≡ back
-    → filter p (cond passes (a ∷ front) front) ≡ cond (passes && p a) (a ∷ back) back
-joined p a front back false e = e
-joined p a front back true e = ap (λ later. cond (p a) (a ∷ later) later) e
+joined : {A : Type 0} (p : A → Bool) (a : A) (prefix back : List A) (passes : Bool) → filter p prefix ≡ back
+    → filter p (cond passes (a ∷ prefix) prefix) ≡ cond (passes && p a) (a ∷ back) back
+joined p a prefix back false e = e
+joined p a prefix back true e = ap (λ later. cond (p a) (a ∷ later) later) e
 
 filter_both : {A : Type 0} (p q r : A → Bool) → ((a : A) → (q a && p a) ≡ r a) → (all : List A) → filter p (filter q all) ≡ filter r all
 filter_both p q r each [] = refl
@@ -78,7 +78,7 @@ passed {V} kept old new entry copy is_new entries all turn met e =
 pub added : {V : Type 0} (kept more : List (List ℕ × V)) (old new : Keys) (entry : List ℕ × V) (copy : List ℕ) (is_new : Bool) (entries all : List (List ℕ × V))
     → Turn old new entry.0 copy is_new → is_new ≡ true → all ≡ entry ∷ entries → more ≡ kept ++ entry ∷ [] → more ++ unseen (has new) entries ≡ kept ++ unseen (has old) all
 added {V} kept more old new entry copy is_new entries all turn unmet e pushed =
-    ap (λ front. front ++ unseen (has new) entries) pushed ∙ (append_assoc kept (entry ∷ []) (unseen (has new) entries)
+    ap (λ prefix. prefix ++ unseen (has new) entries) pushed ∙ (append_assoc kept (entry ∷ []) (unseen (has new) entries)
     ∙ ap (λ later. kept ++ later) (sym (ap (unseen (has old)) e ∙ (turned old new entry copy is_new entries turn ∙ ap (λ b. cond {A = List (List ℕ × V)} b (entry ∷ unseen (has new) entries) (unseen (has new) entries)) unmet))))
 
 -- ---- the entries as plain ones

@@ -10,7 +10,7 @@ use Rattle.markup_rules.specs.Tree.{Tree, trees_of, children_of, name_of, text_o
 use Rattle.plist.specs.declared.form.Form.{Form}
 use Rattle.plist.specs.declared.form.Form.TheVariants.{Text, Number, True, False, Array, Dict, Unread, Unknown}
 use Rattle.plist.specs.Faults.{IsLeafName, of_string, of_integer, of_real, of_true, of_false, of_date, of_data, IsUnknown, WrongKey, no_key, in_key, WrongValue, unknown, in_leaf, in_array, in_dict, WrongItem, this_item, later_item, WrongEntry, this_key, no_value, this_value, later_entry, WrongList, no_list, no_item, only_item, second_item, IsFault}
-use Rattle.plist.specs.Reading.{spot_at, fault, form_of, nothing, own_text, key_of, array_by, dict_by, value_by, value_at, items_of, entries_of, entries_behind, only, value_of}
+use Rattle.plist.specs.Reading.{spot_at, fault, form_of, nothing, own_text, key_of, array_by, dict_by, value_by, value_at, items_of, entries_of, entries_after, only, value_of}
 use Rattle.plist.specs.Values.{PlainValue, Entry, text, number, truth, other}
 use Rattle.plist.proofs.Forms.{value_is}
 use Rattle.plist.proofs.Gives.{if_named, key_gives, by_name, value_gives}
@@ -89,13 +89,13 @@ mutual
       ∙ ap (λ found. found >>= λ rest. Ok (value ∷ rest)) (items_told wrong)
 
   entries_told : {dict : Tree} {trees : List Tree} {at : Tree} → WrongEntry dict trees at → entries_of dict (trees_of trees) ≡ Err (spot_at at)
-  entries_told (this_key {dict} {key} {at} {later} wrong) = ap (λ found. found >>= λ bytes. entries_behind dict bytes (trees_of later)) (key_told wrong)
-  entries_told (no_value {dict} {key} leaf) = ap (λ found. found >>= λ bytes. entries_behind dict bytes (trees_of [])) (key_gives key leaf)
+  entries_told (this_key {dict} {key} {at} {later} wrong) = ap (λ found. found >>= λ bytes. entries_after dict bytes (trees_of later)) (key_told wrong)
+  entries_told (no_value {dict} {key} leaf) = ap (λ found. found >>= λ bytes. entries_after dict bytes (trees_of [])) (key_gives key leaf)
   entries_told (this_value {dict} {key} {item} {at} {later} leaf wrong) =
-      ap (λ found. found >>= λ bytes. entries_behind dict bytes (trees_of (item ∷ later))) (key_gives key leaf)
+      ap (λ found. found >>= λ bytes. entries_after dict bytes (trees_of (item ∷ later))) (key_gives key leaf)
       ∙ ap (λ found. found >>= λ first. entries_of dict (trees_of later) >>= λ rest. Ok ((text_of key, first) ∷ rest)) (value_told wrong)
   entries_told (later_entry {dict} {key} {item} {at} {value} {later} leaf is wrong) =
-      ap (λ found. found >>= λ bytes. entries_behind dict bytes (trees_of (item ∷ later))) (key_gives key leaf)
+      ap (λ found. found >>= λ bytes. entries_after dict bytes (trees_of (item ∷ later))) (key_gives key leaf)
       ∙ (ap (λ found. found >>= λ first. entries_of dict (trees_of later) >>= λ rest. Ok ((text_of key, first) ∷ rest)) (value_gives is)
       ∙ ap (λ found. found >>= λ rest. Ok ((text_of key, value) ∷ rest)) (entries_told wrong))
 

@@ -11,7 +11,7 @@ use Rattle.plist.specs.declared.form.Form.{Form}
 use Rattle.plist.specs.declared.form.Form.TheVariants.{Text, Number, True, False, Array, Dict, Unread, Unknown}
 use Rattle.plist.specs.Entries.{firsts}
 use Rattle.plist.specs.Faults.{IsLeafName, of_string, of_integer, of_real, of_true, of_false, of_date, of_data, IsUnknown, WrongKey, no_key, in_key, WrongValue, unknown, in_leaf, in_array, in_dict, WrongItem, this_item, later_item, WrongEntry, this_key, no_value, this_value, later_entry, WrongList, no_list, no_item, only_item, second_item, IsFault}
-use Rattle.plist.specs.Reading.{spot_at, fault, form_of, nothing, own_text, key_of, value_by, value_at, items_of, entries_of, entries_behind, only, value_of}
+use Rattle.plist.specs.Reading.{spot_at, fault, form_of, nothing, own_text, key_of, value_by, value_at, items_of, entries_of, entries_after, only, value_of}
 use Rattle.plist.specs.Values.{PlainValue, Entry, text, number, truth, array, dict, other, items_from, entries_from}
 use Rattle.plist.proofs.Takes.{Read, Told, told, Key, key_takes, value_takes}
 
@@ -134,14 +134,14 @@ mutual
   entries_fail : (here : Tree) (trees : Trees) (spot : Spot) → entries_of here trees ≡ Err spot → At (WrongEntry here (list_of trees)) spot
   entries_fail here no_trees spot e = cc
   entries_fail here (and_trees tree later) spot e =
-      elim (failed (key_of tree) (λ bytes. entries_behind here bytes later) spot e) [
+      elim (failed (key_of tree) (λ bytes. entries_after here bytes later) spot e) [
         | first h ↦ turned spot (λ at wrong. this_key wrong) (key_fails tree spot h)
-        | second bytes h g ↦ behind_fails here bytes later spot g tree (key_takes tree bytes h)
+        | second bytes h g ↦ after_fails here bytes later spot g tree (key_takes tree bytes h)
       ]
 
-  behind_fails : (here : Tree) (bytes : List ℕ) (trees : Trees) (spot : Spot) → entries_behind here bytes trees ≡ Err spot → (key : Tree) → Key key bytes → At (WrongEntry here (key ∷ list_of trees)) spot
-  behind_fails here bytes no_trees spot e key is = record { at = here; wrong = no_value is.leaf; told = same_fault here spot e }
-  behind_fails here bytes (and_trees tree later) spot e key is =
+  after_fails : (here : Tree) (bytes : List ℕ) (trees : Trees) (spot : Spot) → entries_after here bytes trees ≡ Err spot → (key : Tree) → Key key bytes → At (WrongEntry here (key ∷ list_of trees)) spot
+  after_fails here bytes no_trees spot e key is = record { at = here; wrong = no_value is.leaf; told = same_fault here spot e }
+  after_fails here bytes (and_trees tree later) spot e key is =
       elim (failed (value_at tree) (λ value. entries_of here later >>= λ rest. Ok ((bytes, value) ∷ rest)) spot e) [
         | first h ↦ turned spot (λ at wrong. this_value is.leaf wrong) (value_fails tree spot h)
         | second value h g ↦ elim (failed (entries_of here later) (λ rest. Ok ((bytes, value) ∷ rest)) spot g) [

@@ -3,7 +3,7 @@ use Rattle.std.proofs.Common.{◌≡◌, ℕ, List, Option, Some, None, refl, ap
 use Rattle.std.specs.Prelude.{Result}
 use Rattle.basics.specs.declared.fault.Spot.{Spot}
 use Rattle.markup_rules.specs.Tree.{Tree, node, Trees, no_trees, and_trees, trees_of, list_of, children_of, name_of}
-use Rattle.plist.specs.Reading.{form_of, value_by, value_at, items_of, entries_behind, entries_of}
+use Rattle.plist.specs.Reading.{form_of, value_by, value_at, items_of, entries_after, entries_of}
 use Rattle.plist.specs.Values.{Entry}
 
 trees_again : (trees : Trees) → trees_of (list_of trees) ≡ trees
@@ -18,4 +18,4 @@ value_is (node name attributes children text at) =
 -- the entries where a key may have been read
 abbrev pub entries_by : Tree → Option (List ℕ) → Trees → Result (List Entry) Spot
 entries_by here None trees = entries_of here trees
-entries_by here (Some key) trees = entries_behind here key trees
+entries_by here (Some key) trees = entries_after here key trees

@@ -10,7 +10,7 @@ use Rattle.markup_rules.specs.Tree.{Tree, node, Trees, no_trees, and_trees, list
 use Rattle.plist.specs.declared.form.Form.{Form}
 use Rattle.plist.specs.declared.form.Form.TheVariants.{Text, Number, True, False, Array, Dict, Unread, Unknown}
 use Rattle.plist.specs.Entries.{firsts}
-use Rattle.plist.specs.Reading.{fault, form_of, nothing, own_text, key_of, value_by, value_at, items_of, entries_of, entries_behind, only, value_of}
+use Rattle.plist.specs.Reading.{fault, form_of, nothing, own_text, key_of, value_by, value_at, items_of, entries_of, entries_after, only, value_of}
 use Rattle.plist.specs.Syntax.{IsLeaf, IsValue, a_string, an_integer, a_real, a_true, a_false, an_array, a_dict, a_date, a_data, AreValues, no_values, and_value, AreEntries, none, and_pair, IsPropertyList}
 use Rattle.plist.specs.Values.{PlainValue, Entry, text, number, truth, array, dict, other, items_from, entries_from}
 
@@ -151,12 +151,12 @@ mutual
   entries_take : (here : Tree) (trees : Trees) (all : List Entry) → entries_of here trees ≡ Ok all → AreEntries (list_of trees) all
   entries_take here no_trees all e = subst (AreEntries []) (same [] all e) none
   entries_take here (and_trees tree later) all e =
-      let key = steps (key_of tree) (λ bytes. entries_behind here bytes later) all e in
-      behind_takes here key.step later all key.goes tree (key_takes tree key.step key.reads)
+      let key = steps (key_of tree) (λ bytes. entries_after here bytes later) all e in
+      after_takes here key.step later all key.goes tree (key_takes tree key.step key.reads)
 
-  behind_takes : (here : Tree) (bytes : List ℕ) (trees : Trees) (all : List Entry) → entries_behind here bytes trees ≡ Ok all → (key : Tree) → Key key bytes → AreEntries (key ∷ list_of trees) all
-  behind_takes here bytes no_trees all e key is = cc
-  behind_takes here bytes (and_trees tree later) all e key is =
+  after_takes : (here : Tree) (bytes : List ℕ) (trees : Trees) (all : List Entry) → entries_after here bytes trees ≡ Ok all → (key : Tree) → Key key bytes → AreEntries (key ∷ list_of trees) all
+  after_takes here bytes no_trees all e key is = cc
+  after_takes here bytes (and_trees tree later) all e key is =
       let first = steps (value_at tree) (λ value. entries_of here later >>= λ rest. Ok ((bytes, value) ∷ rest)) all e in
       let others = steps (entries_of here later) (λ rest. Ok ((bytes, first.step) ∷ rest)) all first.goes in
       subst (AreEntries (key ∷ tree ∷ list_of later)) (ap (λ name. (name, first.step) ∷ others.step) is.means ∙ same _ all others.goes)

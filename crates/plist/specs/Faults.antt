@@ -1,5 +1,5 @@
--- The first fault of a tree that is no property list, by what is written: the element that may not stand at its
--- place, or the one that lacks a child. Of what an element has in it, all before the fault is right.
+-- The first fault of a tree that is no property list, by what is written: the element that may not stand where it
+-- is, or the one that lacks a child. Of what an element has in it, all before the fault is right.
 use Rattle.std.specs.Prelude.{◌≡◌, ◌≢◌, ℕ, List, [], ◌∷◌, codes}
 use Rattle.basics.specs.declared.fault.Spot.{Spot}
 use Rattle.basics.specs.declared.fault.Stop.{Stop}
@@ -25,13 +25,13 @@ pub record IsUnknown (name : List ℕ) : Type 0 where
   pub no_array : name ≢ codes "array"
   pub no_dict : name ≢ codes "dict"
 
--- at a key's place
+-- where a key is wanted
 pub data WrongKey : Tree → Tree → Type 0 where
   no_key : {tree : Tree} → name_of tree ≢ codes "key" → WrongKey tree tree
   in_key : {tree child : Tree} {later : List Tree} → name_of tree ≡ codes "key" → children_of tree ≡ child ∷ later → WrongKey tree child
 
 mutual
-  -- at a value's place
+  -- where a value is wanted
   pub data WrongValue : Tree → Tree → Type 0 where
     unknown : {tree : Tree} → IsUnknown (name_of tree) → WrongValue tree tree
     in_leaf : {tree child : Tree} {later : List Tree} → IsLeafName (name_of tree) → children_of tree ≡ child ∷ later → WrongValue tree child

@@ -1,12 +1,12 @@
 -- What a property list means (Apple's property lists in XML, as UFO 3 uses them), or its first fault: the first
--- element that may not stand at its place, or the one that lacks a child. An element comes before its children,
+-- element that may not stand where it is, or the one that lacks a child. An element comes before its children,
 -- and these come in order, each with all in it.
-use Rattle.std.specs.Prelude.{ℕ, pos, Bool, true, false, ◌||◌, List, [], ◌∷◌, codes, Result, Ok, Err, if◌then◌else◌}
+use Rattle.std.specs.Prelude.{ℕ, pos, true, false, ◌||◌, List, [], ◌∷◌, codes, Result, Ok, Err, if◌then◌else◌}
 use Rattle.std.specs.Str.{bytes_eq}
 use Rattle.basics.specs.Reading.{◌>>=◌, spot_of}
 use Rattle.basics.specs.declared.kinds.Kind.TheVariants.{NotPlist}
 use Rattle.basics.specs.declared.fault.Spot.{Spot}
-use Rattle.markup_rules.specs.Tree.{and_trees, at_of, children_of, is_named, name_of, no_trees, node, text_of, Tree, Trees, trees_of}
+use Rattle.markup_rules.specs.Tree.{and_trees, at_of, children_of, is_named, no_trees, node, text_of, Tree, Trees, trees_of}
 use Rattle.plist.specs.declared.form.Form.{Form}
 use Rattle.plist.specs.declared.form.Form.TheVariants.{Text, Number, True, False, Array, Dict, Unread, Unknown}
 use Rattle.plist.specs.Entries.{firsts}
@@ -70,7 +70,7 @@ value_by Unread tree items entries = leaf_value value.other tree
 value_by Unknown tree items entries = fault tree
 
 abbrev mutual
-  -- the value at a value's place
+  -- the value that an element is, where a value is wanted
   pub value_at : Tree → Result PlainValue Spot
   value_at (node name attributes children text at) =
       let here = node name attributes children text at in
@@ -86,12 +86,12 @@ abbrev mutual
   -- the entries of a dict, a key first
   pub entries_of : Tree → Trees → Result (List Entry) Spot
   entries_of here no_trees = Ok []
-  entries_of here (and_trees first later) = key_of first >>= λ key. entries_behind here key later
+  entries_of here (and_trees first later) = key_of first >>= λ key. entries_after here key later
 
-  -- the same, behind a key
-  pub entries_behind : Tree → List ℕ → Trees → Result (List Entry) Spot
-  entries_behind here key no_trees = fault here
-  entries_behind here key (and_trees first later) = do
+  -- the same, after a key
+  pub entries_after : Tree → List ℕ → Trees → Result (List Entry) Spot
+  entries_after here key no_trees = fault here
+  entries_after here key (and_trees first later) = do
     value ← value_at first
     entries ← entries_of here later
     Ok ((key, value) ∷ entries)
@@ -102,7 +102,7 @@ array_of tree = array_by (items_of (trees_of (children_of tree)))
 abbrev pub dict_of : Tree → Result PlainValue Spot
 dict_of tree = dict_by (entries_of tree (trees_of (children_of tree)))
 
--- ---- the whole list: one value, and nothing behind it
+-- ---- the whole list: one value, and nothing after it
 
 abbrev pub only : Tree → List Tree → Result PlainValue Spot
 only tree [] = fault tree

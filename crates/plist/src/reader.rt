@@ -13,18 +13,18 @@ ghost use Rattle.plist.specs.Values.{PlainValue, plain_entry, plain_value};
 use crate::entries::first_of_each;
 use crate::form::{Form, form_of};
 use crate::value::Value;
-use markup::Element;
 use basics::{Kind, Name, Stop, stop_at};
+use markup::Element;
 use std::alloc::Global;
 
-/// The stop at an element that may not stand at its place, or that lacks a child.
+/// The stop at an element that may not stand where it is, or that lacks a child.
 fn fault(alloc: Global, element: &Element) -> Stop
     ensures { IsStop result (rules.spot_at (plain element.now)) }
 {
-    stop_at(alloc, Kind::NotPlist, "", element.place(), 0)
+    stop_at(alloc, Kind::NotPlist, "", element.offset(), 0)
 }
 
-/// Stops at the first of these elements, where no element may stand.
+/// Stops at the first of these elements, since none may stand here.
 fn nothing(alloc: Global, elements: &[Element]) -> Result<(), Stop>
     ensures { Gives (λ done. done) result (rules.nothing (map plain elements.now)) }
 {
@@ -40,8 +40,7 @@ fn own_text(alloc: Global, element: &Element) -> Result<Name, Stop>
     ensures { Gives (λ text. text) result (rules.own_text (plain element.now)) }
 {
     nothing(alloc, element.children())?;
-    let text = Name::from_str(alloc, element.text())?;
-    Ok(text)
+    Ok(Name::from_str(alloc, element.text())?)
 }
 
 /// The text of a `key`.
@@ -60,16 +59,14 @@ fn read_key(alloc: Global, element: &Element) -> Result<Name, Stop>
 fn read_text(alloc: Global, element: &Element) -> Result<Value, Stop>
     ensures { Gives plain_value result (rules.text_value value.text (plain element.now)) }
 {
-    let text = own_text(alloc, element)?;
-    Ok(Value::Text(text))
+    Ok(Value::Text(own_text(alloc, element)?))
 }
 
 /// The value of an `integer` or a `real`.
 fn read_number(alloc: Global, element: &Element) -> Result<Value, Stop>
     ensures { Gives plain_value result (rules.text_value value.number (plain element.now)) }
 {
-    let text = own_text(alloc, element)?;
-    Ok(Value::Number(text))
+    Ok(Value::Number(own_text(alloc, element)?))
 }
 
 /// The value of a `true` or a `false`.
@@ -95,8 +92,7 @@ fn read_items(alloc: Global, elements: &[Element]) -> Result<Vec<Value>, Stop>
 {
     let mut values = Vec::new(alloc);
     for element in elements {
-        let value = read_value(alloc, element)?;
-        values.push(value)?;
+        values.push(read_value(alloc, element)?)?;
     }
     Ok(values)
 }
@@ -107,8 +103,7 @@ fn read_items(alloc: Global, elements: &[Element]) -> Result<Vec<Value>, Stop>
 fn read_array(alloc: Global, element: &Element) -> Result<Value, Stop>
     ensures { Gives plain_value result (rules.array_of (plain element.now)) }
 {
-    let values = read_items(alloc, &element.children)?;
-    Ok(Value::Array(values))
+    Ok(Value::Array(read_items(alloc, &element.children)?))
 }
 
 /// The entries of a `dict`, a key and a value each, in order.
@@ -149,7 +144,7 @@ fn read_dict(alloc: Global, element: &Element) -> Result<Value, Stop>
     Ok(Value::Dict(entries))
 }
 
-/// The value that an element at a value's place is.
+/// The value that an element is, where a value is wanted.
 #[cycle(plist)]
 #[tactic(auto, using(crate::proofs::Forms::value_is))]
 fn read_value(alloc: Global, element: &Element) -> Result<Value, Stop>
@@ -202,7 +197,7 @@ fn read_list(alloc: Global, tree: &Element) -> Result<Value, Stop>
 ///
 /// # Errors
 ///
-/// `Stop::At` with the kind NotPlist and a place alone, exactly where the tree isn't of that form. The place is
+/// `Stop::At` with the kind NotPlist and an offset alone, exactly where the tree isn't of that form. The offset is
 /// the offset in bytes of the first element that may not stand where it is, or of the `plist` or `dict` that
 /// lacks a child. An element comes before what is in it, its children come in order, each with all in it, and
 /// a missing child comes after them. `Stop::NoMemory` where memory ran out.

@@ -4,7 +4,7 @@ use std::alloc::{AllocError, Global};
 use std::fmt::Write;
 use std::test::Fail;
 
-/// What stands in a `plist`, with the value as a line: texts in quotes, numbers behind #, arrays in brackets,
+/// What stands in a `plist`, with the value as a line: texts in quotes, numbers after #, arrays in brackets,
 /// dictionaries in braces.
 const VALUES: [(&str, &str); 28] = [
     ("<string>a</string>", "'a'"),
@@ -58,7 +58,7 @@ const VALUES: [(&str, &str); 28] = [
     ),
 ];
 
-/// Texts that aren't property lists, with the place of the fault.
+/// Texts that aren't property lists, with the offset of the fault.
 const FAULTS: [(&str, u64); 25] = [
     ("<dict/>", 0),
     ("<Plist><true/></Plist>", 0),
@@ -90,7 +90,7 @@ const FAULTS: [(&str, u64); 25] = [
     ),
 ];
 
-/// Texts with two faults that are next to each other in the order of tests, with the place of the first.
+/// Texts with two faults that are next to each other in the order of tests, with the offset of the first.
 const FIRST_OF_TWO: [(&str, u64); 20] = [
     // A name, and what is in it.
     ("<list><x/></list>", 0),
@@ -161,14 +161,34 @@ fn value_of(alloc: Global, text: &str) -> Result<Value, Stop> {
     read(alloc, &tree)
 }
 
-// The fault of a text, with its fields but the item; none where it has a value, or no tree.
-fn fault_of(alloc: Global, text: &str) -> Option<(bool, u64, u64, i64, i64)> {
+// What is wrong with a text: the kind of its fault, the length of the item, and the numbers. None where it has a value.
+fn fault_of(alloc: Global, text: &str) -> Option<(Kind, usize, [u64; 2], [i64; 2])> {
     match value_of(alloc, text) {
-        Err(Stop::At(spot)) => {
-            let is_plain = spot.kind == Kind::NotPlist && spot.item.as_str().is_empty();
-            Some((is_plain, spot.at, spot.also, spot.first, spot.second))
-        }
+        Err(Stop::At(spot)) => Some((
+            spot.kind,
+            spot.item.as_str().len(),
+            [spot.at, spot.also],
+            [spot.first, spot.second],
+        )),
         _ => None,
+    }
+}
+
+// The fault NotPlist at this offset.
+fn not_plist(at: u64) -> Option<(Kind, usize, [u64; 2], [i64; 2])> {
+    Some((Kind::NotPlist, 0, [at, 0], [0, 0]))
+}
+
+// The value of a text as a line, or what is wrong with it.
+fn line_of(alloc: Global, text: &str) -> Result<String, AllocError> {
+    match value_of(alloc, text) {
+        Ok(value) => {
+            let mut line = String::new(alloc);
+            show(&value, &mut line)?;
+            Ok(line)
+        }
+        Err(Stop::At(spot)) => format!(in alloc; "{} at {}", spot.kind.name(), spot.at),
+        Err(Stop::NoMemory) => String::from_str(alloc, "NoMemory"),
     }
 }
 
@@ -179,11 +199,7 @@ fn reads_values(rt: HostRuntime) -> Result<(), Fail> {
     for start in ["<plist>", apple] {
         for (inside, want) in VALUES {
             let text = format!(in rt.alloc(); "{start}{inside}</plist>")?;
-            let mut line = String::new(rt.alloc());
-            match value_of(rt.alloc(), text.as_str()) {
-                Ok(value) => show(&value, &mut line)?,
-                Err(_) => line.push_str("refused")?,
-            }
+            let line = line_of(rt.alloc(), text.as_str())?;
             assert_eq!(rt; line.as_str(), want, "{inside}");
         }
     }
@@ -193,25 +209,17 @@ fn reads_values(rt: HostRuntime) -> Result<(), Fail> {
 #[test]
 fn finds_faults(rt: HostRuntime) -> Result<(), Fail> {
     for (text, at) in FAULTS {
-        assert_eq!(rt;
-            fault_of(rt.alloc(), text),
-            Some((true, at, 0, 0, 0)),
-            "{text}"
-        );
+        assert_eq!(rt; fault_of(rt.alloc(), text), not_plist(at), "{text}");
     }
     for (text, at) in FIRST_OF_TWO {
-        assert_eq!(rt;
-            fault_of(rt.alloc(), text),
-            Some((true, at, 0, 0, 0)),
-            "{text}"
-        );
+        assert_eq!(rt; fault_of(rt.alloc(), text), not_plist(at), "{text}");
     }
     for name in ["string", "integer", "real", "true", "false", "date", "data"] {
         let text = format!(in rt.alloc(); "<plist><{name}>x<true/></{name}></plist>")?;
         let at = "<plist><>x".len() as u64 + name.len() as u64;
         assert_eq!(rt;
             fault_of(rt.alloc(), text.as_str()),
-            Some((true, at, 0, 0, 0)),
+            not_plist(at),
             "{name}"
         );
     }
@@ -246,12 +254,11 @@ fn answers_by_kind(rt: HostRuntime) -> Result<(), Fail> {
         "Some(\"1\") None None None false|None Some(\"1\") None None false|None None Some(false) None false|None None None Some(1) false|None None None None false|absent|absent|";
     assert_eq!(rt; seen.as_str(), want);
     assert_eq!(rt; dict.as_dict().map(|entries| entries.len()), Some(5));
-    assert!(rt;
-        dict.as_text().is_none()
-            && dict.as_number().is_none()
-            && dict.as_bool().is_none()
-            && dict.as_array().is_none()
+    assert_eq!(rt;
+        (dict.as_text(), dict.as_number(), dict.as_bool()),
+        (None, None, None)
     );
+    assert_eq!(rt; dict.as_array().map(|items| items.len()), None);
     Ok(())
 }
 
@@ -271,11 +278,7 @@ fn goes_64_deep(rt: HostRuntime) -> Result<(), Fail> {
         want.push(']')?;
     }
     text.push_str("</plist>")?;
-    let mut line = String::new(rt.alloc());
-    match value_of(rt.alloc(), text.as_str()) {
-        Ok(value) => show(&value, &mut line)?,
-        Err(_) => line.push_str("refused")?,
-    }
+    let line = line_of(rt.alloc(), text.as_str())?;
     assert_eq!(rt; line.as_str(), want.as_str());
     Ok(())
 }

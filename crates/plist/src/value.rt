@@ -75,7 +75,7 @@ impl Value {
         }
     }
 
-    /// The value of a key, if this is a `dict` that has it. It is looked for from the front.
+    /// The value of a key, if this is a `dict` that has it. It is looked for from the first key on.
     pub fn get(&self, key: &str) -> Option<&Value>
         ensures { option_map (λ value. plain_value value.now) result ≡ plain.get key.now (plain_value self.now) }
     {

@@ -1,6 +1,6 @@
 -- One axis of a region at a value: where the factor is 1, where it is 0, and what a cut leaves.
 use Rattle.std.proofs.Common.{◌≡◌, ◌≢◌, refl, sym, ◌∙◌, ap, subst, ℕ, ℤ, pos, negsuc, ◌*ℤ◌, ◌≤ℤ◌, ◌<ℤ◌, ◌<◌, true, false, true≢false, ◌⊎◌, inl, inr, arith}
-use Rattle.std.specs.Prelude.{int_lt, int_le, unsigned_abs}
+use Rattle.std.specs.Prelude.{unsigned_abs}
 use Rattle.std.specs.Ordering.{int_eq}
 use Rattle.std.proofs.lemmas.Int.{ints}
 use Rattle.fixpoint.specs.Rounding.{round_up}
@@ -8,13 +8,6 @@ use Rattle.fixpoint.proofs.RoundingLemmas.{scaled_by_one, scaled_by_zero}
 use Rattle.variation_rules.specs.declared.region.Triple.{Triple}
 use Rattle.variation_rules.specs.Scalar.{is_ignored, factor, scaled}
 use Rattle.region_support.specs.Regions.{no_axis, IsNoneIfIgnored, is_within, ratio, is_below, cut_triple}
-
--- what a test of two numbers tells
-pub lt_tells : (a b : ℤ) → ((int_lt a b ≡ true) × (a <ℤ b)) ⊎ ((int_lt a b ≡ false) × (b ≤ℤ a))
-lt_tells a b = grind (arith, ints)
-
-pub le_tells : (a b : ℤ) → ((int_le a b ≡ true) × (a ≤ℤ b)) ⊎ ((int_le a b ≡ false) × (b <ℤ a))
-le_tells a b = grind (arith, ints)
 
 pub eq_tells : (a b : ℤ) → ((int_eq a b ≡ true) × (a ≡ b)) ⊎ ((int_eq a b ≡ false) × (a ≢ b))
 eq_tells a b = grind (arith, ints)

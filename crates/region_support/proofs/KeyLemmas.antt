@@ -11,13 +11,13 @@ use Rattle.std.proofs.lemmas.List.Sorted.{ranks_by, sorted_far, IsPermutation-ma
 use Rattle.arrayvec.specs.ArrayVec.{ArrayVec, array_vec_len}
 use Rattle.variation_rules.specs.PackedPoints.{count_from}
 use Rattle.region_support.specs.MasterOrder.{is_default, axes_of, rank, points_from, axes_from, values_of, is_above}
-use Rattle.region_support.specs.Places.{places_of}
+use Rattle.region_support.specs.Coordinates.{coordinates_of}
 use Rattle.region_support.specs.Keys.{key_of}
-use Rattle.region_support.specs.Sorting.{place_at, first_repeat, model_fault, order_of, IsOrder}
+use Rattle.region_support.specs.Sorting.{location_at, first_repeat, model_fault, order_of, IsOrder}
 use Rattle.region_support.specs.declared.key.Key.{Key}
 use Rattle.region_support.specs.declared.sorting.ModelStop.{ModelStop}
 use Rattle.region_support.specs.declared.sorting.ModelStop.TheVariants.{SameLocation, NoDefault}
-use Rattle.region_support.proofs.SortLemmas.{compare_at, turned, turned_equal, RisesIn, AreApart, place_behind, is_order, apart_moved, order_is, one_order}
+use Rattle.region_support.proofs.SortLemmas.{compare_at, turned, turned_equal, RisesIn, AreApart, coordinates_after, is_order, apart_moved, order_is, order_law}
 
 -- the keys of locations, the first one counted as this number
 abbrev pub keys_from : List (List ℤ) → ℕ → List (List ℤ) → List Key
@@ -73,12 +73,12 @@ number_last Equal Equal Equal Equal e f = refl
 
 -- the key is that of its number's location
 abbrev IsOwn : List (List ℤ) → Key → Type 0
-IsOwn all k = k ≡ key_of all k.number (place_at all k.number)
+IsOwn all k = k ≡ key_of all k.number (location_at all k.number)
 
 own_compared : (all : List (List ℤ)) (m k : Key) → IsOwn all m → IsOwn all k → key_cmp m k ≡ ordering_then (compare_at all m.number k.number) (nat_cmp m.number k.number)
 own_compared all m k first second =
-    let a = place_at all m.number in
-    let b = place_at all k.number in
+    let a = location_at all m.number in
+    let b = location_at all k.number in
     ap (λ (j : Key). key_cmp j k) first ∙ (ap (λ (j : Key). key_cmp (key_of all m.number a) j) second
     ∙ number_last (nat_cmp (rank a) (rank b)) (nat_cmp (points_from all 0 b) (points_from all 0 a)) (slice_cmp nat_cmp (axes_from 0 a) (axes_from 0 b)) (slice_cmp bool_cmp (map is_above (values_of a)) (map is_above (values_of b))) (slice_cmp nat_cmp (map unsigned_abs (values_of a)) (map unsigned_abs (values_of b))) (nat_cmp m.number k.number))
 
@@ -110,7 +110,7 @@ own_from before (at ∷ more) =
     let counted : length (before ++ (at ∷ [])) ≡ length before + 1 = length_more before at in
     let P : List (List ℤ) × ℕ → Type 0 = λ p. AllByRecursion (IsOwn p.0) (keys_from p.0 p.1 more) in
     let both : ◌≡◌ {A = List (List ℤ) × ℕ} ((before ++ (at ∷ [])) ++ more, length (before ++ (at ∷ []))) (before ++ (at ∷ more), length before + 1) = λ i. (joined i, counted i) in (
-      ap (λ (w : List ℤ). key_of (before ++ (at ∷ more)) (length before) w) (sym (place_behind before at more)),
+      ap (λ (w : List ℤ). key_of (before ++ (at ∷ more)) (length before) w) (sym (coordinates_after before at more)),
       subst P both (own_from (before ++ (at ∷ [])) more),
     )
   where
@@ -153,9 +153,9 @@ keys_order all sorted same none moved in_order =
 -- and so they are those of the definition
 pub order_value : (all : List (List ℤ)) (ns : List ℕ) → AllByRecursion (λ at. length at ≡ axes_of all) all → model_fault all ≡ None → IsOrder all ns → ns ≡ order_of all
 order_value all ns same none order =
-    let found = fault_none all none in one_order all ns (order_of all) order (order_is all same found.0 found.1)
+    let found = fault_none all none in order_law all ns (order_of all) order (order_is all same found.0 found.1)
 
 -- the lengths of vectors are those of their lists
-pub place_lengths : (axes : ℕ) (locations : List (ArrayVec ℤ)) → All (λ at. array_vec_len at ≡ axes) locations → AllByRecursion (λ at. length at ≡ axes) (places_of locations)
-place_lengths axes locations each =
-    recursion_from_All (λ at. length at ≡ axes) (places_of locations) (All-map (λ at. length at ≡ axes) (λ (at : ArrayVec ℤ). at.items) locations each)
+pub coordinates_lengths : (axes : ℕ) (locations : List (ArrayVec ℤ)) → All (λ at. array_vec_len at ≡ axes) locations → AllByRecursion (λ at. length at ≡ axes) (coordinates_of locations)
+coordinates_lengths axes locations each =
+    recursion_from_All (λ at. length at ≡ axes) (coordinates_of locations) (All-map (λ at. length at ≡ axes) (λ (at : ArrayVec ℤ). at.items) locations each)

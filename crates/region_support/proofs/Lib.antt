@@ -1,8 +1,8 @@
 pub mod AxisLemmas
 pub mod OrderLemmas
-pub mod BoxLemmas
+pub mod InfluenceLemmas
 pub mod SortLemmas
 pub mod KeyLemmas
-pub mod PlaceLemmas
+pub mod LocationLemmas
 pub mod RegionLaw
 pub mod RangeLemmas

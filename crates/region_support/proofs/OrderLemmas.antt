@@ -93,15 +93,15 @@ axes_beyond n axis (v ∷ vs) more e =
     same_head : (a b : ℕ) (xs ys : List ℕ) → a ∷ xs ≡ b ∷ ys → a ≤ b
     same_head a b xs ys e = let heads : a ≡ b = cc in omega (arith, heads)
 
-place_is : (n : ℕ) (a b : List ℤ) → length a ≡ length b → axes_from n a ≡ axes_from n b → values_of a ≡ values_of b → a ≡ b
-place_is n [] [] same axes values = refl
-place_is n [] (w ∷ ws) same axes values = absurd (omega arith)
-place_is n (v ∷ vs) [] same axes values = absurd (omega arith)
-place_is n (v ∷ vs) (w ∷ ws) same axes values =
+coordinates_is : (n : ℕ) (a b : List ℤ) → length a ≡ length b → axes_from n a ≡ axes_from n b → values_of a ≡ values_of b → a ≡ b
+coordinates_is n [] [] same axes values = refl
+coordinates_is n [] (w ∷ ws) same axes values = absurd (omega arith)
+coordinates_is n (v ∷ vs) [] same axes values = absurd (omega arith)
+coordinates_is n (v ∷ vs) (w ∷ ws) same axes values =
     elim (eq_tells v (pos 0)) [
       | inl left ↦ elim (eq_tells w (pos 0)) [
         | inl right ↦
-            let rest = place_is (n + 1) vs ws (omega arith) (sym (axes_zero n v vs left.1).0 ∙ (axes ∙ (axes_zero n w ws right.1).0)) (sym (axes_zero n v vs left.1).1 ∙ (values ∙ (axes_zero n w ws right.1).1)) in
+            let rest = coordinates_is (n + 1) vs ws (omega arith) (sym (axes_zero n v vs left.1).0 ∙ (axes ∙ (axes_zero n w ws right.1).0)) (sym (axes_zero n v vs left.1).1 ∙ (values ∙ (axes_zero n w ws right.1).1)) in
             let heads : v ≡ w = left.1 ∙ sym right.1 in
             cc
         | inr right ↦ absurd (omega (arith, axes_beyond (n + 1) n vs (axes_from (n + 1) ws) (sym (axes_zero n v vs left.1).0 ∙ (axes ∙ (axes_some n w ws right.1).0))))
@@ -114,7 +114,7 @@ place_is n (v ∷ vs) (w ∷ ws) same axes values =
             let heads : v ≡ w = cc in
             let more_axes : axes_from (n + 1) vs ≡ axes_from (n + 1) ws = cc in
             let more_values : values_of vs ≡ values_of ws = cc in
-            let rest = place_is (n + 1) vs ws (omega arith) more_axes more_values in
+            let rest = coordinates_is (n + 1) vs ws (omega arith) more_axes more_values in
             cc
       ]
     ]
@@ -130,7 +130,7 @@ compare_equal all a b same tie =
     let third = (then_equal points (ordering_then axes (ordering_then sides sizes)) second).1 in
     let fourth = then_equal axes (ordering_then sides sizes) third in
     let fifth = then_equal sides sizes fourth.1 in
-    place_is 0 a b same (exact_bytes (axes_from 0 a) (axes_from 0 b) fourth.0)
+    coordinates_is 0 a b same (exact_bytes (axes_from 0 a) (axes_from 0 b) fourth.0)
     (values_are (values_of a) (values_of b) (bools_equal (map is_above (values_of a)) (map is_above (values_of b)) fifth.0) (exact_bytes (map unsigned_abs (values_of a)) (map unsigned_abs (values_of b)) fifth.1))
 
 -- the order of two locations doesn't depend on how the masters are listed

@@ -6,9 +6,9 @@ use Rattle.std.specs.Int.{int_min, int_max}
 use Rattle.std.proofs.lemmas.Int.{ints}
 use Rattle.variation_rules.specs.declared.region.Triple.{Triple}
 use Rattle.region_support.specs.MasterOrder.{value_on}
-use Rattle.region_support.specs.Regions.{least_on, greatest_on, first_triple, first_from, greatest_ratio, cut_triple, cut_triples, cut_by, cut_by_all, regions_after, regions_of, IsNormalised, IsNormalisedTriple, AreNormalisedPlaces, AreNormalisedRegions}
+use Rattle.region_support.specs.Regions.{least_on, greatest_on, first_triple, first_from, greatest_ratio, cut_triple, cut_triples, cut_by, cut_by_all, regions_after, regions_of, IsNormalised, IsNormalisedTriple, AreNormalisedLocations, AreNormalisedRegions}
 use Rattle.region_support.proofs.AxisLemmas.{cut_tells}
-use Rattle.region_support.proofs.BoxLemmas.{cut_by_tells}
+use Rattle.region_support.proofs.InfluenceLemmas.{cut_by_tells}
 use Rattle.region_support.proofs.RegionLaw.{first_tells}
 
 zero_normal : IsNormalised (pos 0)
@@ -23,12 +23,12 @@ value_normal axis [] each = zero_normal
 value_normal zero (v ∷ vs) each = each.0
 value_normal (suc axis) (v ∷ vs) each = value_normal axis vs each.1
 
-least_from : (least : ℤ) (axis : ℕ) (all : List (List ℤ)) → IsNormalised least → AreNormalisedPlaces all → IsNormalised (fold int_min least (map (value_on axis) all))
+least_from : (least : ℤ) (axis : ℕ) (all : List (List ℤ)) → IsNormalised least → AreNormalisedLocations all → IsNormalised (fold int_min least (map (value_on axis) all))
 least_from least axis [] start each = start
 least_from least axis (at ∷ all) start each =
     least_from (int_min least (value_on axis at)) axis all (either_normal (int_lt (value_on axis at) least) (value_on axis at) least (value_normal axis at each.0) start) each.1
 
-greatest_from : (greatest : ℤ) (axis : ℕ) (all : List (List ℤ)) → IsNormalised greatest → AreNormalisedPlaces all → IsNormalised (fold int_max greatest (map (value_on axis) all))
+greatest_from : (greatest : ℤ) (axis : ℕ) (all : List (List ℤ)) → IsNormalised greatest → AreNormalisedLocations all → IsNormalised (fold int_max greatest (map (value_on axis) all))
 greatest_from greatest axis [] start each = start
 greatest_from greatest axis (at ∷ all) start each =
     greatest_from (int_max greatest (value_on axis at)) axis all (either_normal (int_lt (value_on axis at) greatest) greatest (value_on axis at) start (value_normal axis at each.0)) each.1
@@ -42,7 +42,7 @@ first_normal least greatest value low high own =
       | inr (inr none) ↦ subst P (sym none.1) (zero_normal, zero_normal, zero_normal)
     ]
 
-first_from_normal : (all : List (List ℤ)) (axis : ℕ) (vs : List ℤ) → AreNormalisedPlaces all → AllByRecursion IsNormalised vs → AllByRecursion IsNormalisedTriple (first_from all axis vs)
+first_from_normal : (all : List (List ℤ)) (axis : ℕ) (vs : List ℤ) → AreNormalisedLocations all → AllByRecursion IsNormalised vs → AllByRecursion IsNormalisedTriple (first_from all axis vs)
 first_from_normal all axis [] each own = tt
 first_from_normal all axis (v ∷ vs) each own = (
   first_normal (least_on all axis) (greatest_on all axis) v (least_from (pos 0) axis all zero_normal each) (greatest_from (pos 0) axis all zero_normal each) own.0,
@@ -71,15 +71,15 @@ cut_by_normal region other own each =
       | inr apart ↦ subst P (sym apart.1) own
     ]
 
-cut_all_normal : (region : List Triple) (others : List (List ℤ)) → AllByRecursion IsNormalisedTriple region → AreNormalisedPlaces others → AllByRecursion IsNormalisedTriple (cut_by_all region others)
+cut_all_normal : (region : List Triple) (others : List (List ℤ)) → AllByRecursion IsNormalisedTriple region → AreNormalisedLocations others → AllByRecursion IsNormalisedTriple (cut_by_all region others)
 cut_all_normal region [] own each = own
 cut_all_normal region (other ∷ others) own each = cut_all_normal (cut_by region other) others (cut_by_normal region other own each.0) each.1
 
-one_more : (at : List ℤ) (earlier : List (List ℤ)) → AreNormalisedPlaces earlier → AllByRecursion IsNormalised at → AreNormalisedPlaces (earlier ++ (at ∷ []))
+one_more : (at : List ℤ) (earlier : List (List ℤ)) → AreNormalisedLocations earlier → AllByRecursion IsNormalised at → AreNormalisedLocations (earlier ++ (at ∷ []))
 one_more at [] each own = (own, tt)
 one_more at (other ∷ earlier) each own = (each.0, one_more at earlier each.1 own)
 
-after_normal : (all earlier later : List (List ℤ)) → AreNormalisedPlaces all → AreNormalisedPlaces earlier → AreNormalisedPlaces later → AreNormalisedRegions (regions_after all earlier later)
+after_normal : (all earlier later : List (List ℤ)) → AreNormalisedLocations all → AreNormalisedLocations earlier → AreNormalisedLocations later → AreNormalisedRegions (regions_after all earlier later)
 after_normal all earlier [] each before rest = tt
 after_normal all earlier (at ∷ later) each before rest = (
   cut_all_normal (first_from all 0 at) earlier (first_from_normal all 0 at each rest.0) before,
@@ -87,5 +87,5 @@ after_normal all earlier (at ∷ later) each before rest = (
 )
 
 -- The regions of normalised masters are normalised.
-pub regions_normalised : (locations : List (List ℤ)) → AreNormalisedPlaces locations → AreNormalisedRegions (regions_of locations)
+pub regions_normalised : (locations : List (List ℤ)) → AreNormalisedLocations locations → AreNormalisedRegions (regions_of locations)
 regions_normalised locations each = after_normal locations [] locations each tt each

@@ -12,7 +12,7 @@ use Rattle.region_support.specs.MasterOrder.{is_zero, is_default, StartsWithDefa
 use Rattle.region_support.specs.Regions.{no_axis, IsNoneIfIgnored, AreNoneIfIgnored, FirstIsWhole, least_on, greatest_on, first_triple, first_from, cut_by, cut_by_all, regions_after, regions_of, AreTriangular}
 use Rattle.region_support.proofs.OrderLemmas.{compare_total, less_rank}
 use Rattle.region_support.proofs.AxisLemmas.{IsShaped, shaped_none, none_leaves}
-use Rattle.region_support.proofs.BoxLemmas.{IsBox, IsExcluded, own_whole, excluded_nothing, meets, meets_box, meets_keeps}
+use Rattle.region_support.proofs.InfluenceLemmas.{IsWellFormed, IsExcluded, own_whole, excluded_nothing, meets, meets_formed, meets_keeps}
 
 -- the location is one of the list
 abbrev pub IsAmong : List ℤ → List (List ℤ) → Type 0
@@ -59,36 +59,36 @@ first_shaped least greatest value low high =
     ]
 
 -- and of the region
-first_box : (all : List (List ℤ)) (axis : ℕ) (at vs : List ℤ) → IsAmong at all → ((k : ℕ) → value_on (axis + k) at ≡ value_on k vs) → IsBox vs (first_from all axis vs)
-first_box all axis at [] here values = tt
-first_box all axis at (v ∷ vs) here values =
+first_formed : (all : List (List ℤ)) (axis : ℕ) (at vs : List ℤ) → IsAmong at all → ((k : ℕ) → value_on (axis + k) at ≡ value_on k vs) → IsWellFormed vs (first_from all axis vs)
+first_formed all axis at [] here values = tt
+first_formed all axis at (v ∷ vs) here values =
     let own : value_on axis at ≡ v = ap (λ (n : ℕ). value_on n at) (sym (add-zero axis)) ∙ values 0 in
     let low = subst (λ (z : ℤ). least_on all axis ≤ℤ z) own (least_low at axis all here) in
     let high = subst (λ (z : ℤ). z ≤ℤ greatest_on all axis) own (greatest_high at axis all here) in
     let form = first_shaped (least_on all axis) (greatest_on all axis) v low high in
-    (form.0, form.1, first_box all (axis + 1) at vs here (λ k. ap (λ (n : ℕ). value_on n at) (next axis k) ∙ values (suc k)))
+    (form.0, form.1, first_formed all (axis + 1) at vs here (λ k. ap (λ (n : ℕ). value_on n at) (next axis k) ∙ values (suc k)))
   where
     next : (a k : ℕ) → a + 1 + k ≡ a + suc k
     next a k = omega arith
 
-cut_all_box : (at : List ℤ) (region : List Triple) (others : List (List ℤ)) → IsBox at region → IsBox at (cut_by_all region others)
-cut_all_box at region [] box = box
-cut_all_box at region (other ∷ others) box = cut_all_box at (cut_by region other) others (meets_box at region other box)
+cut_all_formed : (at : List ℤ) (region : List Triple) (others : List (List ℤ)) → IsWellFormed at region → IsWellFormed at (cut_by_all region others)
+cut_all_formed at region [] formed = formed
+cut_all_formed at region (other ∷ others) formed = cut_all_formed at (cut_by region other) others (meets_formed at region other formed)
 
-cut_all_keeps : (at : List ℤ) (region : List Triple) (others : List (List ℤ)) (vs : List ℤ) → IsBox at region → IsExcluded region vs → IsExcluded (cut_by_all region others) vs
-cut_all_keeps at region [] vs box out = out
-cut_all_keeps at region (other ∷ others) vs box out = cut_all_keeps at (cut_by region other) others vs (meets_box at region other box) (meets_keeps at region other vs box out)
+cut_all_keeps : (at : List ℤ) (region : List Triple) (others : List (List ℤ)) (vs : List ℤ) → IsWellFormed at region → IsExcluded region vs → IsExcluded (cut_by_all region others) vs
+cut_all_keeps at region [] vs formed out = out
+cut_all_keeps at region (other ∷ others) vs formed out = cut_all_keeps at (cut_by region other) others vs (meets_formed at region other formed) (meets_keeps at region other vs formed out)
 
 -- an earlier master is excluded after all cuts
-excluded : (at : List ℤ) (region : List Triple) (others : List (List ℤ)) (vs : List ℤ) → IsBox at region → length vs ≡ length at → vs ≢ at → rank vs ≤ rank at → IsAmong vs others → IsExcluded (cut_by_all region others) vs
-excluded at region [] vs box same differs few here = absurd here
-excluded at region (other ∷ others) vs box same differs few (inl here) =
+excluded : (at : List ℤ) (region : List Triple) (others : List (List ℤ)) (vs : List ℤ) → IsWellFormed at region → length vs ≡ length at → vs ≢ at → rank vs ≤ rank at → IsAmong vs others → IsExcluded (cut_by_all region others) vs
+excluded at region [] vs formed same differs few here = absurd here
+excluded at region (other ∷ others) vs formed same differs few (inl here) =
     let P : List ℤ → Type 0 = λ o. IsExcluded (cut_by region o) vs in
-    cut_all_keeps at (cut_by region other) others vs (meets_box at region other box) (subst P (sym here) (meets at region vs box same differs few))
-excluded at region (other ∷ others) vs box same differs few (inr there) =
-    excluded at (cut_by region other) others vs (meets_box at region other box) same differs few there
+    cut_all_keeps at (cut_by region other) others vs (meets_formed at region other formed) (subst P (sym here) (meets at region vs formed same differs few))
+excluded at region (other ∷ others) vs formed same differs few (inr there) =
+    excluded at (cut_by region other) others vs (meets_formed at region other formed) same differs few there
 
--- what the law uses of the order: later masters have no fewer axes, and other places
+-- what the law uses of the order: later masters have no fewer axes, and other locations
 abbrev pub IsLater : List ℤ → List ℤ → Type 0
 IsLater at other = (rank at ≤ rank other) × (length at ≡ length other) × (at ≢ other)
 
@@ -100,15 +100,15 @@ abbrev AreAmong : List (List ℤ) → List (List ℤ) → Type 0
 AreAmong [] all = Unit {0}
 AreAmong (at ∷ ats) all = IsAmong at all × AreAmong ats all
 
-region_box : (all earlier : List (List ℤ)) (at : List ℤ) → IsAmong at all → IsBox at (cut_by_all (first_from all 0 at) earlier)
-region_box all earlier at here = cut_all_box at (first_from all 0 at) earlier (first_box all 0 at at here (λ k. ap (λ (n : ℕ). value_on n at) (zero-add k)))
+region_formed : (all earlier : List (List ℤ)) (at : List ℤ) → IsAmong at all → IsWellFormed at (cut_by_all (first_from all 0 at) earlier)
+region_formed all earlier at here = cut_all_formed at (first_from all 0 at) earlier (first_formed all 0 at at here (λ k. ap (λ (n : ℕ). value_on n at) (zero-add k)))
 
 later_nothing : (all earlier : List (List ℤ)) (at : List ℤ) (later : List (List ℤ)) → IsAmong at earlier → AllByRecursion (λ other. IsLater at other) later → AreAmong later all
-    → AllByRecursion (λ region. (places : ℕ) → scalar_of places region at ≡ pos 0) (regions_after all earlier later)
+    → AllByRecursion (λ region. (coordinate_lists : ℕ) → scalar_of coordinate_lists region at ≡ pos 0) (regions_after all earlier later)
 later_nothing all earlier at [] before after here = tt
 later_nothing all earlier at (other ∷ later) before after here = (
-  λ places. excluded_nothing (pos (2 ^ places)) (cut_by_all (first_from all 0 other) earlier) at
-      (excluded other (first_from all 0 other) earlier at (first_box all 0 other other here.0 (λ k. ap (λ (n : ℕ). value_on n other) (zero-add k))) after.0.1 after.0.2 after.0.0 before),
+  λ coordinate_lists. excluded_nothing (pos (2 ^ coordinate_lists)) (cut_by_all (first_from all 0 other) earlier) at
+      (excluded other (first_from all 0 other) earlier at (first_formed all 0 other other here.0 (λ k. ap (λ (n : ℕ). value_on n other) (zero-add k))) after.0.1 after.0.2 after.0.0 before),
   later_nothing all (earlier ++ (other ∷ [])) at later (among_more at earlier (other ∷ []) before) after.1 here.1,
 )
 
@@ -116,7 +116,7 @@ triangular_after : (all earlier later : List (List ℤ)) → AreLater later → 
 triangular_after all earlier [] after here = tt
 triangular_after all earlier (at ∷ later) after here = (
   (
-    λ places. own_whole (pos (2 ^ places)) at (cut_by_all (first_from all 0 at) earlier) (region_box all earlier at here.0),
+    λ coordinate_lists. own_whole (pos (2 ^ coordinate_lists)) at (cut_by_all (first_from all 0 at) earlier) (region_formed all earlier at here.0),
     later_nothing all (earlier ++ (at ∷ [])) at later (among_last at earlier) after.0 here.1,
   ),
   triangular_after all (earlier ++ (at ∷ [])) later after.1 here.1,
@@ -147,30 +147,30 @@ later_all axes all [] same rising = tt
 later_all axes all (at ∷ later) same rising =
     (later_each axes all at later same.0 same.1 rising.0, later_all axes all later same.1 rising.1)
 
-among_front : (at : List ℤ) (locations all : List (List ℤ)) → AreAmong locations all → AreAmong locations (at ∷ all)
-among_front at [] all here = tt
-among_front at (other ∷ others) all here = (inr here.0, among_front at others all here.1)
+among_prefix : (at : List ℤ) (locations all : List (List ℤ)) → AreAmong locations all → AreAmong locations (at ∷ all)
+among_prefix at [] all here = tt
+among_prefix at (other ∷ others) all here = (inr here.0, among_prefix at others all here.1)
 
 all_among : (locations : List (List ℤ)) → AreAmong locations locations
 all_among [] = tt
-all_among (at ∷ later) = (inl refl, among_front at later later (all_among later))
+all_among (at ∷ later) = (inl refl, among_prefix at later later (all_among later))
 
 -- Masters in their order have the law.
-pub own_one_later_nothing : (axes : ℕ) (locations : List (List ℤ)) → AreMasters axes locations → AreTriangular (regions_of locations) locations
-own_one_later_nothing axes locations masters =
+pub regions_law : (axes : ℕ) (locations : List (List ℤ)) → AreMasters axes locations → AreTriangular (regions_of locations) locations
+regions_law axes locations masters =
     triangular_after locations [] locations (later_all axes locations locations masters.equal_lengths masters.rising) (all_among locations)
 
 -- each axis of a region that the scalar leaves out is 0 throughout
-box_none : (at : List ℤ) (region : List Triple) → IsBox at region → AllByRecursion IsNoneIfIgnored region
-box_none [] [] box = tt
-box_none [] (t ∷ ts) box = absurd box
-box_none (p ∷ ps) [] box = absurd box
-box_none (p ∷ ps) (t ∷ ts) box = (shaped_none t box.1, box_none ps ts box.2)
+formed_none : (at : List ℤ) (region : List Triple) → IsWellFormed at region → AllByRecursion IsNoneIfIgnored region
+formed_none [] [] formed = tt
+formed_none [] (t ∷ ts) formed = absurd formed
+formed_none (p ∷ ps) [] formed = absurd formed
+formed_none (p ∷ ps) (t ∷ ts) formed = (shaped_none t formed.1, formed_none ps ts formed.2)
 
 none_after : (all earlier later : List (List ℤ)) → AreAmong later all → AreNoneIfIgnored (regions_after all earlier later)
 none_after all earlier [] here = tt
 none_after all earlier (at ∷ later) here = (
-  box_none at (cut_by_all (first_from all 0 at) earlier) (region_box all earlier at here.0),
+  formed_none at (cut_by_all (first_from all 0 at) earlier) (region_formed all earlier at here.0),
   none_after all (earlier ++ (at ∷ [])) later here.1,
 )
 
@@ -178,16 +178,16 @@ pub none_if_ignored : (locations : List (List ℤ)) → AreNoneIfIgnored (region
 none_if_ignored locations = none_after locations [] locations (all_among locations)
 
 -- and a region has one axis for each of its location
-box_length : (at : List ℤ) (region : List Triple) → IsBox at region → length region ≡ length at
-box_length [] [] box = refl
-box_length [] (t ∷ ts) box = absurd box
-box_length (p ∷ ps) [] box = absurd box
-box_length (p ∷ ps) (t ∷ ts) box = ap (λ (n : ℕ). suc n) (box_length ps ts box.2)
+formed_length : (at : List ℤ) (region : List Triple) → IsWellFormed at region → length region ≡ length at
+formed_length [] [] formed = refl
+formed_length [] (t ∷ ts) formed = absurd formed
+formed_length (p ∷ ps) [] formed = absurd formed
+formed_length (p ∷ ps) (t ∷ ts) formed = ap (λ (n : ℕ). suc n) (formed_length ps ts formed.2)
 
 lengths_after : (axes : ℕ) (all earlier later : List (List ℤ)) → AreAmong later all → AllByRecursion (λ at. length at ≡ axes) later → AllByRecursion (λ region. length region ≡ axes) (regions_after all earlier later)
 lengths_after axes all earlier [] here same = tt
 lengths_after axes all earlier (at ∷ later) here same = (
-  box_length at (cut_by_all (first_from all 0 at) earlier) (region_box all earlier at here.0) ∙ same.0,
+  formed_length at (cut_by_all (first_from all 0 at) earlier) (region_formed all earlier at here.0) ∙ same.0,
   lengths_after axes all (earlier ++ (at ∷ [])) later here.1 same.1,
 )
 
@@ -218,7 +218,7 @@ default_leaves all axis (v ∷ vs) (a ∷ at) s none =
 
 first_whole_after : (all locations : List (List ℤ)) → StartsWithDefault locations → FirstIsWhole (regions_after all [] locations)
 first_whole_after all [] starts = tt
-first_whole_after all (default ∷ later) starts = λ places at. default_leaves all 0 default at (pos (2 ^ places)) starts
+first_whole_after all (default ∷ later) starts = λ coordinate_lists at. default_leaves all 0 default at (pos (2 ^ coordinate_lists)) starts
 
 pub first_is_whole : (axes : ℕ) (locations : List (List ℤ)) → AreMasters axes locations → FirstIsWhole (regions_of locations)
 first_is_whole axes locations masters = first_whole_after locations locations masters.default_first

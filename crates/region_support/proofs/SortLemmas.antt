@@ -11,17 +11,17 @@ use Rattle.std.proofs.lemmas.Map.Keys.{IsDistinct-IsPermutation, IsDistinct-head
 use Rattle.std.proofs.lemmas.Iterator.Adapters.{position_from-zero}
 use Rattle.variation_rules.specs.PackedPoints.{count_from}
 use Rattle.region_support.specs.MasterOrder.{is_zero, is_default, rank, compare_masters, RisesBy, StartsWithDefault, axes_of}
-use Rattle.region_support.specs.Sorting.{place_at, places_at, is_before, with_number, sorted_numbers, order_of, IsOrder, is_same_place, repeat_or, first_repeat}
+use Rattle.region_support.specs.Sorting.{location_at, locations_at, is_before, with_number, sorted_numbers, order_of, IsOrder, is_same_location, repeat_or, first_repeat}
 use Rattle.region_support.proofs.AxisLemmas.{eq_tells}
-use Rattle.region_support.proofs.BoxLemmas.{rank_tells}
+use Rattle.region_support.proofs.InfluenceLemmas.{rank_tells}
 use Rattle.region_support.proofs.OrderLemmas.{compare_total, compare_equal, compare_permuted, less_rank}
 
 -- two numbers compared by their locations
 abbrev pub compare_at : List (List ℤ) → ℕ → ℕ → Ordering
-compare_at all a b = compare_masters all (place_at all a) (place_at all b)
+compare_at all a b = compare_masters all (location_at all a) (location_at all b)
 
 number_total : (all : List (List ℤ)) → IsTotalOrder (compare_at all)
-number_total all = on_total (place_at all) (compare_total all)
+number_total all = on_total (location_at all) (compare_total all)
 
 less_not_greater : Less ≡ Greater → ⊥
 less_not_greater e = cc
@@ -99,31 +99,31 @@ sorted_moves all (n ∷ ns) =
     IsPermutation-trans (n ∷ ns) (n ∷ sorted_numbers all ns) (with_number all n (sorted_numbers all ns)) (IsPermutation-cons n ns (sorted_numbers all ns) (sorted_moves all ns)) (with_moves all n (sorted_numbers all ns))
 
 -- all numbers in turn name all locations in turn
-pub place_behind : (before : List (List ℤ)) (at : List ℤ) (more : List (List ℤ)) → place_at (before ++ (at ∷ more)) (length before) ≡ at
-place_behind [] at more = refl
-place_behind (b ∷ before) at more = place_behind before at more
+pub coordinates_after : (before : List (List ℤ)) (at : List ℤ) (more : List (List ℤ)) → location_at (before ++ (at ∷ more)) (length before) ≡ at
+coordinates_after [] at more = refl
+coordinates_after (b ∷ before) at more = coordinates_after before at more
 
-places_behind : (before more : List (List ℤ)) → map (place_at (before ++ more)) (count_from (length more) (length before)) ≡ more
-places_behind before [] = refl
-places_behind before (at ∷ more) =
-    let head = place_behind before at more in
+coordinate_lists_after : (before more : List (List ℤ)) → map (location_at (before ++ more)) (count_from (length more) (length before)) ≡ more
+coordinate_lists_after before [] = refl
+coordinate_lists_after before (at ∷ more) =
+    let head = coordinates_after before at more in
     let joined : (before ++ (at ∷ [])) ++ more ≡ before ++ (at ∷ more) = append_assoc before (at ∷ []) more in
     let counted : length (before ++ (at ∷ [])) ≡ length before + 1 = length_more before at in
-    let rest : map (place_at (before ++ (at ∷ more))) (count_from (length more) (length before + 1)) ≡ more =
-    sym (λ i. map (place_at (joined i)) (count_from (length more) (counted i))) ∙ places_behind (before ++ (at ∷ [])) more in
+    let rest : map (location_at (before ++ (at ∷ more))) (count_from (length more) (length before + 1)) ≡ more =
+    sym (λ i. map (location_at (joined i)) (count_from (length more) (counted i))) ∙ coordinate_lists_after (before ++ (at ∷ [])) more in
     λ i. head i ∷ rest i
   where
     length_more : (xs : List (List ℤ)) (x : List ℤ) → length (xs ++ (x ∷ [])) ≡ length xs + 1
     length_more [] x = refl
     length_more (y ∷ xs) x = omega (arith, length_more xs x)
 
-pub all_places : (all : List (List ℤ)) → map (place_at all) (count_from (length all) 0) ≡ all
-all_places all = places_behind [] all
+pub all_coordinate_lists : (all : List (List ℤ)) → map (location_at all) (count_from (length all) 0) ≡ all
+all_coordinate_lists all = coordinate_lists_after [] all
 
 -- so the locations of all numbers in another order are the same ones
-pub places_moved : (all : List (List ℤ)) (ns : List ℕ) → IsPermutation (count_from (length all) 0) ns → IsPermutation all (places_at all ns)
-places_moved all ns moved =
-    subst (λ (l : List (List ℤ)). IsPermutation l (places_at all ns)) (all_places all) (IsPermutation-map (place_at all) (count_from (length all) 0) ns moved)
+pub coordinate_lists_moved : (all : List (List ℤ)) (ns : List ℕ) → IsPermutation (count_from (length all) 0) ns → IsPermutation all (locations_at all ns)
+coordinate_lists_moved all ns moved =
+    subst (λ (l : List (List ℤ)). IsPermutation l (locations_at all ns)) (all_coordinate_lists all) (IsPermutation-map (location_at all) (count_from (length all) 0) ns moved)
 
 lengths_moved : (axes : ℕ) (ps qs : List (List ℤ)) → IsPermutation ps qs → AllByRecursion (λ at. length at ≡ axes) ps → AllByRecursion (λ at. length at ≡ axes) qs
 lengths_moved axes ps qs moved each =
@@ -173,32 +173,32 @@ default_leads all (at ∷ later) rising some = by (is_default at) refl
     by false e = rank_default at (least later rising.0 (sym (ap (λ (c : Bool). c || list_any is_default later) e) ∙ some))
 
 -- rising numbers name rising locations, and the other way round
-places_each : (all : List (List ℤ)) (compare : List ℤ → List ℤ → Ordering) → ((a b : List ℤ) → compare_masters all a b ≡ compare a b) → (n : ℕ) (ns : List ℕ) → AllByRecursion (λ m. compare_at all n m ≡ Less) ns → AllByRecursion (λ other. compare (place_at all n) other ≡ Less) (places_at all ns)
-places_each all compare same n [] each = tt
-places_each all compare same n (m ∷ ns) each = (sym (same (place_at all n) (place_at all m)) ∙ each.0, places_each all compare same n ns each.1)
+coordinate_lists_each : (all : List (List ℤ)) (compare : List ℤ → List ℤ → Ordering) → ((a b : List ℤ) → compare_masters all a b ≡ compare a b) → (n : ℕ) (ns : List ℕ) → AllByRecursion (λ m. compare_at all n m ≡ Less) ns → AllByRecursion (λ other. compare (location_at all n) other ≡ Less) (locations_at all ns)
+coordinate_lists_each all compare same n [] each = tt
+coordinate_lists_each all compare same n (m ∷ ns) each = (sym (same (location_at all n) (location_at all m)) ∙ each.0, coordinate_lists_each all compare same n ns each.1)
 
-places_rise : (all : List (List ℤ)) (compare : List ℤ → List ℤ → Ordering) → ((a b : List ℤ) → compare_masters all a b ≡ compare a b) → (ns : List ℕ) → RisesIn all ns → RisesBy compare (places_at all ns)
-places_rise all compare same [] rising = tt
-places_rise all compare same (n ∷ ns) rising = (places_each all compare same n ns rising.0, places_rise all compare same ns rising.1)
+coordinate_lists_rise : (all : List (List ℤ)) (compare : List ℤ → List ℤ → Ordering) → ((a b : List ℤ) → compare_masters all a b ≡ compare a b) → (ns : List ℕ) → RisesIn all ns → RisesBy compare (locations_at all ns)
+coordinate_lists_rise all compare same [] rising = tt
+coordinate_lists_rise all compare same (n ∷ ns) rising = (coordinate_lists_each all compare same n ns rising.0, coordinate_lists_rise all compare same ns rising.1)
 
-numbers_each : (all : List (List ℤ)) (compare : List ℤ → List ℤ → Ordering) → ((a b : List ℤ) → compare_masters all a b ≡ compare a b) → (n : ℕ) (ns : List ℕ) → AllByRecursion (λ other. compare (place_at all n) other ≡ Less) (places_at all ns) → AllByRecursion (λ m. compare_at all n m ≡ Less) ns
+numbers_each : (all : List (List ℤ)) (compare : List ℤ → List ℤ → Ordering) → ((a b : List ℤ) → compare_masters all a b ≡ compare a b) → (n : ℕ) (ns : List ℕ) → AllByRecursion (λ other. compare (location_at all n) other ≡ Less) (locations_at all ns) → AllByRecursion (λ m. compare_at all n m ≡ Less) ns
 numbers_each all compare same n [] each = tt
-numbers_each all compare same n (m ∷ ns) each = (same (place_at all n) (place_at all m) ∙ each.0, numbers_each all compare same n ns each.1)
+numbers_each all compare same n (m ∷ ns) each = (same (location_at all n) (location_at all m) ∙ each.0, numbers_each all compare same n ns each.1)
 
-numbers_rise : (all : List (List ℤ)) (compare : List ℤ → List ℤ → Ordering) → ((a b : List ℤ) → compare_masters all a b ≡ compare a b) → (ns : List ℕ) → RisesBy compare (places_at all ns) → RisesIn all ns
+numbers_rise : (all : List (List ℤ)) (compare : List ℤ → List ℤ → Ordering) → ((a b : List ℤ) → compare_masters all a b ≡ compare a b) → (ns : List ℕ) → RisesBy compare (locations_at all ns) → RisesIn all ns
 numbers_rise all compare same [] rising = tt
 numbers_rise all compare same (n ∷ ns) rising = (numbers_each all compare same n ns rising.0, numbers_rise all compare same ns rising.1)
 
 -- Numbers that rise and stand for all locations are their order.
 pub is_order : (all : List (List ℤ)) (ns : List ℕ) → AllByRecursion (λ at. length at ≡ axes_of all) all → list_any is_default all ≡ true → IsPermutation (count_from (length all) 0) ns → RisesIn all ns → IsOrder all ns
 is_order all ns same some moved rising =
-    let places = places_moved all ns moved in
-    let rise : RisesBy (compare_masters (places_at all ns)) (places_at all ns) = places_rise all (compare_masters (places_at all ns)) (compare_permuted all (places_at all ns) places) ns rising in
+    let coordinate_lists = coordinate_lists_moved all ns moved in
+    let rise : RisesBy (compare_masters (locations_at all ns)) (locations_at all ns) = coordinate_lists_rise all (compare_masters (locations_at all ns)) (compare_permuted all (locations_at all ns) coordinate_lists) ns rising in
     record {
       all = moved;
       rising = record {
-        default_first = default_leads (places_at all ns) (places_at all ns) rise (sym (list_any-IsPermutation is_default all (places_at all ns) places) ∙ some);
-        equal_lengths = lengths_moved (axes_of all) all (places_at all ns) places same;
+        default_first = default_leads (locations_at all ns) (locations_at all ns) rise (sym (list_any-IsPermutation is_default all (locations_at all ns) coordinate_lists) ∙ some);
+        equal_lengths = lengths_moved (axes_of all) all (locations_at all ns) coordinate_lists same;
         rising = rise;
       };
     }
@@ -251,12 +251,12 @@ rising_same all (n ∷ ns) (m ∷ ms) left right into back =
     λ i. heads i ∷ rest i
 
 -- There is one order at most.
-pub one_order : (all : List (List ℤ)) (ns ms : List ℕ) → IsOrder all ns → IsOrder all ms → ns ≡ ms
-one_order all ns ms first second =
+pub order_law : (all : List (List ℤ)) (ns ms : List ℕ) → IsOrder all ns → IsOrder all ms → ns ≡ ms
+order_law all ns ms first second =
     let moved = IsPermutation-trans ns (count_from (length all) 0) ms (IsPermutation-sym (count_from (length all) 0) ns first.all) second.all in
     rising_same all ns ms
-    (numbers_rise all (compare_masters (places_at all ns)) (compare_permuted all (places_at all ns) (places_moved all ns first.all)) ns first.rising.rising)
-    (numbers_rise all (compare_masters (places_at all ms)) (compare_permuted all (places_at all ms) (places_moved all ms second.all)) ms second.rising.rising)
+    (numbers_rise all (compare_masters (locations_at all ns)) (compare_permuted all (locations_at all ns) (coordinate_lists_moved all ns first.all)) ns first.rising.rising)
+    (numbers_rise all (compare_masters (locations_at all ms)) (compare_permuted all (locations_at all ms) (coordinate_lists_moved all ms second.all)) ms second.rising.rising)
     (in_moved ns ms moved)
     (in_moved ms ns (IsPermutation-sym ns ms moved))
 
@@ -279,50 +279,50 @@ repeat_none n (Some k) later none = absurd (some_not_none none)
     some_not_none e = cc
 repeat_none n None later none = (refl, none)
 
-last_and_rest : (earlier : List (List ℤ)) (at other : List ℤ) → AllByRecursion (λ e. is_same_place other e ≡ false) (earlier ++ (at ∷ [])) → AllByRecursion (λ e. is_same_place other e ≡ false) earlier × (is_same_place other at ≡ false)
+last_and_rest : (earlier : List (List ℤ)) (at other : List ℤ) → AllByRecursion (λ e. is_same_location other e ≡ false) (earlier ++ (at ∷ [])) → AllByRecursion (λ e. is_same_location other e ≡ false) earlier × (is_same_location other at ≡ false)
 last_and_rest [] at other each = (tt, each.0)
 last_and_rest (e ∷ earlier) at other each = let more = last_and_rest earlier at other each.1 in ((each.0, more.0), more.1)
 
-split_last : (earlier : List (List ℤ)) (at : List ℤ) (later : List (List ℤ)) → AllByRecursion (λ other. AllByRecursion (λ e. is_same_place other e ≡ false) (earlier ++ (at ∷ []))) later
-    → AllByRecursion (λ other. AllByRecursion (λ e. is_same_place other e ≡ false) earlier) later × AllByRecursion (λ other. is_same_place at other ≡ false) later
+split_last : (earlier : List (List ℤ)) (at : List ℤ) (later : List (List ℤ)) → AllByRecursion (λ other. AllByRecursion (λ e. is_same_location other e ≡ false) (earlier ++ (at ∷ []))) later
+    → AllByRecursion (λ other. AllByRecursion (λ e. is_same_location other e ≡ false) earlier) later × AllByRecursion (λ other. is_same_location at other ≡ false) later
 split_last earlier at [] each = (tt, tt)
 split_last earlier at (other ∷ later) each =
     let own = last_and_rest earlier at other each.0 in
     let more = split_last earlier at later each.1 in
     ((own.0, more.0), ((lists_equiv int_eq_equiv).symm at other ∙ own.1, more.1))
 
-all_differ : (earlier later : List (List ℤ)) → first_repeat earlier later ≡ None → AllByRecursion (λ other. AllByRecursion (λ e. is_same_place other e ≡ false) earlier) later × IsDistinct is_same_place later
+all_differ : (earlier later : List (List ℤ)) → first_repeat earlier later ≡ None → AllByRecursion (λ other. AllByRecursion (λ e. is_same_location other e ≡ false) earlier) later × IsDistinct is_same_location later
 unfolding IsDistinct
 all_differ earlier [] none = (tt, tt)
 all_differ earlier (at ∷ later) none =
-    let parts = repeat_none (length earlier) (position (is_same_place at) earlier) (first_repeat (earlier ++ (at ∷ [])) later) none in
+    let parts = repeat_none (length earlier) (position (is_same_location at) earlier) (first_repeat (earlier ++ (at ∷ [])) later) none in
     let more = all_differ (earlier ++ (at ∷ [])) later parts.1 in
     let split = split_last earlier at later more.0 in
-    ((position_none (is_same_place at) 0 earlier (sym (position_from-zero (is_same_place at) earlier) ∙ parts.0), split.0), (split.1, more.1))
+    ((position_none (is_same_location at) 0 earlier (sym (position_from-zero (is_same_location at) earlier) ∙ parts.0), split.0), (split.1, more.1))
 
-pub places_differ : (all : List (List ℤ)) → first_repeat [] all ≡ None → IsDistinct is_same_place all
-places_differ all none = (all_differ [] all none).1
+pub coordinate_lists_differ : (all : List (List ℤ)) → first_repeat [] all ≡ None → IsDistinct is_same_location all
+coordinate_lists_differ all none = (all_differ [] all none).1
 
 -- and so no two numbers tie, in any order
-apart_each : (all : List (List ℤ)) (axes n : ℕ) (ns : List ℕ) → length (place_at all n) ≡ axes → AllByRecursion (λ at. length at ≡ axes) (places_at all ns) → AllByRecursion (λ other. is_same_place (place_at all n) other ≡ false) (places_at all ns) → AllByRecursion (λ m. compare_at all n m ≢ Equal) ns
+apart_each : (all : List (List ℤ)) (axes n : ℕ) (ns : List ℕ) → length (location_at all n) ≡ axes → AllByRecursion (λ at. length at ≡ axes) (locations_at all ns) → AllByRecursion (λ other. is_same_location (location_at all n) other ≡ false) (locations_at all ns) → AllByRecursion (λ m. compare_at all n m ≢ Equal) ns
 apart_each all axes n [] own same differ = tt
 apart_each all axes n (m ∷ ns) own same differ = (
-  λ tie. true≢false (sym (subst (λ (w : List ℤ). is_same_place (place_at all n) w ≡ true) (compare_equal all (place_at all n) (place_at all m) (own ∙ sym same.0) tie) ((lists_equiv int_eq_equiv).refl (place_at all n))) ∙ differ.0),
+  λ tie. true≢false (sym (subst (λ (w : List ℤ). is_same_location (location_at all n) w ≡ true) (compare_equal all (location_at all n) (location_at all m) (own ∙ sym same.0) tie) ((lists_equiv int_eq_equiv).refl (location_at all n))) ∙ differ.0),
   apart_each all axes n ns own same.1 differ.1,
 )
 
-pub apart : (all : List (List ℤ)) (axes : ℕ) (ns : List ℕ) → AllByRecursion (λ at. length at ≡ axes) (places_at all ns) → IsDistinct is_same_place (places_at all ns) → AreApart all ns
+pub apart : (all : List (List ℤ)) (axes : ℕ) (ns : List ℕ) → AllByRecursion (λ at. length at ≡ axes) (locations_at all ns) → IsDistinct is_same_location (locations_at all ns) → AreApart all ns
 apart all axes [] same differ = tt
 apart all axes (n ∷ ns) same differ = (
-  apart_each all axes n ns same.0 same.1 (IsDistinct-head is_same_place (place_at all n) (places_at all ns) differ),
-  apart all axes ns same.1 (IsDistinct-tail is_same_place (place_at all n) (places_at all ns) differ),
+  apart_each all axes n ns same.0 same.1 (IsDistinct-head is_same_location (location_at all n) (locations_at all ns) differ),
+  apart all axes ns same.1 (IsDistinct-tail is_same_location (location_at all n) (locations_at all ns) differ),
 )
 
 pub apart_moved : (all : List (List ℤ)) (axes : ℕ) (ns : List ℕ) → AllByRecursion (λ at. length at ≡ axes) all → first_repeat [] all ≡ None → IsPermutation (count_from (length all) 0) ns → AreApart all ns
 apart_moved all axes ns same none moved =
-    let places = places_moved all ns moved in
-    apart all axes ns (lengths_moved axes all (places_at all ns) places same)
-    (IsDistinct-IsPermutation is_same_place (λ x y. (lists_equiv int_eq_equiv).symm x y) all (places_at all ns) places (places_differ all none))
+    let coordinate_lists = coordinate_lists_moved all ns moved in
+    apart all axes ns (lengths_moved axes all (locations_at all ns) coordinate_lists same)
+    (IsDistinct-IsPermutation is_same_location (λ x y. (lists_equiv int_eq_equiv).symm x y) all (locations_at all ns) coordinate_lists (coordinate_lists_differ all none))
 
 -- The definition's numbers are the order, where there is one.
 pub order_is : (all : List (List ℤ)) → AllByRecursion (λ at. length at ≡ axes_of all) all → list_any is_default all ≡ true → first_repeat [] all ≡ None → IsOrder all (order_of all)

@@ -2,5 +2,5 @@ pub mod MasterOrder
 pub mod Sorting
 pub mod Keys
 pub mod Regions
-pub mod Places
+pub mod Coordinates
 pub mod Laws

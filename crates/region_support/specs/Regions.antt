@@ -78,7 +78,7 @@ abbrev pub cut_by_all : List Triple → List (List ℤ) → List Triple
 cut_by_all region [] = region
 cut_by_all region (other ∷ others) = cut_by_all (cut_by region other) others
 
--- the regions of masters in their order, behind earlier ones; all of them are the masters
+-- the regions of masters in their order, after earlier ones; all of them are the masters
 abbrev pub regions_after : List (List ℤ) → List (List ℤ) → List (List ℤ) → List (List Triple)
 regions_after all earlier [] = []
 regions_after all earlier (at ∷ later) = cut_by_all (first_from all 0 at) earlier ∷ regions_after all (earlier ++ (at ∷ [])) later
@@ -90,7 +90,7 @@ regions_of locations = regions_after locations [] locations
 -- own region one, later regions nothing
 abbrev pub EndsTheRow : List (List Triple) → List ℤ → Type 0
 EndsTheRow [] at = Unit {0}
-EndsTheRow (own ∷ later) at = ((places : ℕ) → scalar_of places own at ≡ pos (2 ^ places)) × AllByRecursion (λ region. (places : ℕ) → scalar_of places region at ≡ pos 0) later
+EndsTheRow (own ∷ later) at = ((coordinate_lists : ℕ) → scalar_of coordinate_lists own at ≡ pos (2 ^ coordinate_lists)) × AllByRecursion (λ region. (coordinate_lists : ℕ) → scalar_of coordinate_lists region at ≡ pos 0) later
 
 -- at each master's location its own region is whole, and every later one has no influence
 abbrev pub AreTriangular : List (List Triple) → List (List ℤ) → Type 0
@@ -108,7 +108,7 @@ AreNoneIfIgnored regions = AllByRecursion (λ region. AllByRecursion IsNoneIfIgn
 -- the first region, the default's, is whole everywhere
 abbrev pub FirstIsWhole : List (List Triple) → Type 0
 FirstIsWhole [] = Unit {0}
-FirstIsWhole (region ∷ regions) = (places : ℕ) (at : List ℤ) → scalar_of places region at ≡ pos (2 ^ places)
+FirstIsWhole (region ∷ regions) = (coordinate_lists : ℕ) (at : List ℤ) → scalar_of coordinate_lists region at ≡ pos (2 ^ coordinate_lists)
 
 -- a normalised coordinate: from -1 to 1 in F2DOT14
 abbrev pub IsNormalised : ℤ → Type 0
@@ -117,8 +117,8 @@ IsNormalised z = (neg_ℤ (pos 16384) ≤ℤ z) × (z ≤ℤ pos 16384)
 abbrev pub IsNormalisedTriple : Triple → Type 0
 IsNormalisedTriple t = IsNormalised t.start × IsNormalised t.peak × IsNormalised t.end
 
-abbrev pub AreNormalisedPlaces : List (List ℤ) → Type 0
-AreNormalisedPlaces locations = AllByRecursion (λ at. AllByRecursion IsNormalised at) locations
+abbrev pub AreNormalisedLocations : List (List ℤ) → Type 0
+AreNormalisedLocations locations = AllByRecursion (λ at. AllByRecursion IsNormalised at) locations
 
 abbrev pub AreNormalisedRegions : List (List Triple) → Type 0
 AreNormalisedRegions regions = AllByRecursion (λ region. AllByRecursion IsNormalisedTriple region) regions

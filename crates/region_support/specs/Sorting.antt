@@ -9,16 +9,16 @@ use Rattle.region_support.specs.MasterOrder.{is_default, compare_masters, AreMas
 use Rattle.region_support.specs.declared.sorting.ModelStop.{ModelStop}
 use Rattle.region_support.specs.declared.sorting.ModelStop.TheVariants.{NoDefault, SameLocation}
 
-abbrev pub place_at : List (List ℤ) → ℕ → List ℤ
-place_at locations number = slice_index_or locations number []
+abbrev pub location_at : List (List ℤ) → ℕ → List ℤ
+location_at locations number = slice_index_or locations number []
 
 -- the locations of these numbers, in their order
-abbrev pub places_at : List (List ℤ) → List ℕ → List (List ℤ)
-places_at locations numbers = map (place_at locations) numbers
+abbrev pub locations_at : List (List ℤ) → List ℕ → List (List ℤ)
+locations_at locations numbers = map (location_at locations) numbers
 
 -- whether the first of two numbers names the location that comes first
 abbrev pub is_before : List (List ℤ) → ℕ → ℕ → Bool
-is_before locations a b = is_lt (compare_masters locations (place_at locations a) (place_at locations b))
+is_before locations a b = is_lt (compare_masters locations (location_at locations a) (location_at locations b))
 
 -- a number put before the first one whose location comes after its own
 abbrev pub with_number : List (List ℤ) → ℕ → List ℕ → List ℕ
@@ -38,10 +38,10 @@ order_of locations = sorted_numbers locations (count_from (length locations) 0)
 -- masters in theirs.
 pub record IsOrder (locations : List (List ℤ)) (order : List ℕ) : Type 0 where
   pub all : IsPermutation (count_from (length locations) 0) order
-  pub rising : AreMasters (axes_of locations) (places_at locations order)
+  pub rising : AreMasters (axes_of locations) (locations_at locations order)
 
-abbrev pub is_same_place : List ℤ → List ℤ → Bool
-is_same_place a b = pointwise int_eq a b
+abbrev pub is_same_location : List ℤ → List ℤ → Bool
+is_same_location a b = pointwise int_eq a b
 
 abbrev pub repeat_or : ℕ → Option ℕ → Option (ℕ × ℕ) → Option (ℕ × ℕ)
 repeat_or number (Some first) later = Some (first, number)
@@ -51,7 +51,7 @@ repeat_or number None later = later
 abbrev pub first_repeat : List (List ℤ) → List (List ℤ) → Option (ℕ × ℕ)
 first_repeat earlier [] = None
 first_repeat earlier (at ∷ later) =
-    repeat_or (length earlier) (position (is_same_place at) earlier) (first_repeat (earlier ++ (at ∷ [])) later)
+    repeat_or (length earlier) (position (is_same_location at) earlier) (first_repeat (earlier ++ (at ∷ [])) later)
 
 -- why there is no order: no location is the default, or else two are equal
 abbrev pub model_fault : List (List ℤ) → Option ModelStop

@@ -1,6 +1,6 @@
 ghost use Rattle.std.specs.Prelude.{◌≡◌, length};
 ghost use Rattle.region_support.specs.MasterOrder.{value_on};
-ghost use Rattle.region_support.specs.Places.{places_of};
+ghost use Rattle.region_support.specs.Coordinates.{coordinates_of};
 ghost use Rattle.region_support.specs.Regions.{least_on, greatest_on, first_triple, first_from};
 
 use crate::Location;
@@ -19,7 +19,7 @@ pub(crate) fn value_on(location: &Location, axis: usize) -> i32
 
 // The least value of any master on an axis, 0 among them.
 fn least_on(masters: &[Location], axis: usize) -> i32
-    ensures { result ≡ least_on (places_of masters.now) axis }
+    ensures { result ≡ least_on (coordinates_of masters.now) axis }
 {
     let mut least = 0;
     for location in masters {
@@ -30,7 +30,7 @@ fn least_on(masters: &[Location], axis: usize) -> i32
 
 // The greatest value of any master on an axis, 0 among them.
 fn greatest_on(masters: &[Location], axis: usize) -> i32
-    ensures { result ≡ greatest_on (places_of masters.now) axis }
+    ensures { result ≡ greatest_on (coordinates_of masters.now) axis }
 {
     let mut greatest = 0;
     for location in masters {
@@ -60,7 +60,7 @@ fn first_triple(least: i32, greatest: i32, value: i32) -> Triple
 /// Writes the region of a master with these values before any cut, one triple a value.
 pub(crate) fn first_region(masters: &[Location], at: &[Fix<14>], region: &mut [Triple])
     requires { length region.old ≡ length at.now }
-    ensures { region.new ≡ first_from (places_of masters.now) 0 at.now }
+    ensures { region.new ≡ first_from (coordinates_of masters.now) 0 at.now }
 {
     for axis in 0..at.len() {
         region[axis] = first_triple(

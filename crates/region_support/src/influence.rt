@@ -9,7 +9,7 @@ use fixpoint::Fix;
 /// interpolation of instance values"): 1 at its peak, 0 outside. After each axis it is rounded to the
 /// nearest number, ties up.
 pub fn scalar<const G: u32>(support: &Support, at: &Location) -> Fix<G>
-    requires places { G ≤ 30 }
+    requires coordinate_lists { G ≤ 30 }
     requires same_axes { array_vec_len support.now ≡ array_vec_len at.now }
     ensures value { result ≡ scalar_of G support.now.items at.now.items }
     ensures low { pos 0 ≤ℤ result }

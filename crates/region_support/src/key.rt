@@ -1,7 +1,7 @@
 ghost use Rattle.std.specs.Prelude.{◌≡◌, ◌≤◌, pos, ◌≢◌, length};
 ghost use Rattle.region_support.specs.Keys.{key_of};
 ghost use Rattle.region_support.specs.MasterOrder.{rank, is_axis_point};
-ghost use Rattle.region_support.specs.Places.{places_of};
+ghost use Rattle.region_support.specs.Coordinates.{coordinates_of};
 
 use crate::Location;
 use crate::first::value_on;
@@ -10,7 +10,7 @@ use fixpoint::Fix;
 use std::cmp::Reverse;
 
 /// What orders a master among all: its fields, one after the other. The number comes last, where it decides
-/// nothing, since no two masters stand at one place.
+/// nothing, since no two masters stand at one location.
 #[derive(Drop, PartialEq, Eq, PartialOrd, Ord)]
 pub(crate) struct Key {
     /// On how many axes the master isn't at the default.
@@ -36,7 +36,7 @@ fn rank(at: &[Fix<14>]) -> usize
 
 // Whether a master stands at this value on this axis alone.
 fn is_axis_point(masters: &[Location], axis: usize, value: i32) -> bool
-    ensures { result ≡ is_axis_point (places_of masters.now) axis value }
+    ensures { result ≡ is_axis_point (coordinates_of masters.now) axis value }
 {
     for other in masters {
         if rank(other.as_slice()) == 1 && value_on(other, axis) == value {
@@ -49,7 +49,7 @@ fn is_axis_point(masters: &[Location], axis: usize, value: i32) -> bool
 /// The key of the master of this number at this location, among all masters.
 pub(crate) fn key_of(masters: &[Location], number: u32, at: &[Fix<14>]) -> Key
     requires { length at.now ≤ 8 }
-    ensures { result ≡ key_of (places_of masters.now) number at.now }
+    ensures { result ≡ key_of (coordinates_of masters.now) number at.now }
 {
     let mut points = 0;
     let mut axes = ArrayVec::new();

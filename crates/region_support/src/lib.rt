@@ -14,12 +14,12 @@ mod tests;
 use arrayvec::ArrayVec;
 use fixpoint::Fix;
 pub use influence::scalar;
-pub use laws::{keys_tell_apart, one_order, own_one_later_nothing};
+pub use laws::{keys_law, order_law, regions_law};
 pub use sorting::{ModelStop, in_order, order};
 pub use support::boxes;
 pub use variation_rules::Triple;
 
-/// A place in the design space: one normalised coordinate an axis (F2DOT14), in the font's order of axes, at
+/// A point of the design space: one normalised coordinate an axis (F2DOT14), in the font's order of axes, at
 /// most eight.
 pub type Location = ArrayVec<Fix<14>, 8>;
 

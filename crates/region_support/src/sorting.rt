@@ -2,9 +2,9 @@ ghost use Rattle.std.specs.Prelude.{◌≡◌, ◌≢◌, ◌≤◌, [], length,
 ghost use Rattle.std.specs.List.{list_any};
 ghost use Rattle.arrayvec.specs.ArrayVec.{array_vec_len};
 ghost use Rattle.region_support.specs.MasterOrder.{is_default, axes_of, AreMasters};
-ghost use Rattle.region_support.specs.Places.{places_of};
-ghost use Rattle.region_support.specs.Regions.{AreNormalisedPlaces};
-ghost use Rattle.region_support.specs.Sorting.{is_same_place, first_repeat, model_fault, order_of, IsOrder, places_at};
+ghost use Rattle.region_support.specs.Coordinates.{coordinates_of};
+ghost use Rattle.region_support.specs.Regions.{AreNormalisedLocations};
+ghost use Rattle.region_support.specs.Sorting.{is_same_location, first_repeat, model_fault, order_of, IsOrder, locations_at};
 
 use crate::Location;
 use crate::key::key_of;
@@ -42,7 +42,7 @@ fn is_default(at: &Location) -> bool
 
 // Whether one of the locations is the default.
 fn has_default(locations: &[Location]) -> bool
-    ensures { result ≡ list_any is_default (places_of locations.now) }
+    ensures { result ≡ list_any is_default (coordinates_of locations.now) }
 {
     for at in locations {
         if is_default(at) {
@@ -54,7 +54,7 @@ fn has_default(locations: &[Location]) -> bool
 
 // The number of the first of the earlier locations that equals this one.
 fn first_same(earlier: &[Location], at: &Location) -> Option<usize>
-    ensures { result ≡ position (is_same_place at.now.items) (places_of earlier.now) }
+    ensures { result ≡ position (is_same_location at.now.items) (coordinates_of earlier.now) }
 {
     for (number, other) in earlier.iter().enumerate() {
         if at == other {
@@ -67,7 +67,7 @@ fn first_same(earlier: &[Location], at: &Location) -> Option<usize>
 // The first location that equals an earlier one: the number of the first such one, and its own.
 fn first_repeat(locations: &[Location]) -> Option<(u32, u32)>
     requires { length locations.now ≤ 128 }
-    ensures { result ≡ first_repeat [] (places_of locations.now) }
+    ensures { result ≡ first_repeat [] (coordinates_of locations.now) }
 {
     for number in 0..locations.len() {
         if let Some(first) = first_same(&locations[..number], &locations[number]) {
@@ -80,7 +80,7 @@ fn first_repeat(locations: &[Location]) -> Option<(u32, u32)>
 // Why there is no order.
 fn model_fault(locations: &[Location]) -> Option<ModelStop>
     requires { length locations.now ≤ 128 }
-    ensures { result ≡ model_fault (places_of locations.now) }
+    ensures { result ≡ model_fault (coordinates_of locations.now) }
 {
     if has_default(locations) {
         let (first, number) = first_repeat(locations)?;
@@ -92,10 +92,10 @@ fn model_fault(locations: &[Location]) -> Option<ModelStop>
 
 // The numbers of the locations in the order of masters, where there is one.
 fn sorted_numbers(alloc: Global, locations: &[Location]) -> Result<Seq<u32>, NoMemory>
-    requires lengths { All (λ at. array_vec_len at ≡ axes_of (places_of locations.now)) locations.now }
+    requires lengths { All (λ at. array_vec_len at ≡ axes_of (coordinates_of locations.now)) locations.now }
     requires few { length locations.now ≤ 128 }
-    requires sound { model_fault (places_of locations.now) ≡ None }
-    ensures { IfOk result (λ numbers. IsOrder (places_of locations.now) numbers) }
+    requires sound { model_fault (coordinates_of locations.now) ≡ None }
+    ensures { IfOk result (λ numbers. IsOrder (coordinates_of locations.now) numbers) }
 {
     let mut keys = Vec::new(alloc);
     for number in 0..locations.len() {
@@ -108,15 +108,15 @@ fn sorted_numbers(alloc: Global, locations: &[Location]) -> Result<Seq<u32>, NoM
 
 /// The numbers of the locations, counted from 0 as they are listed, in the order of masters: those that are off the
 /// default on fewer axes come first, then those that stand at more axis points, then the axes, the sides and the
-/// distances from the default decide, item by item. An axis point is the place of a master that is off the default on
+/// distances from the default decide, item by item. An axis point is the coordinate of a master that is off the default on
 /// that axis alone. The default is the first.
 pub fn order(alloc: Global, locations: &Seq<Location>) -> Result<Seq<u32>, ModelStop>
-    requires lengths { All (λ at. array_vec_len at ≡ axes_of (places_of locations.now)) locations.now }
+    requires lengths { All (λ at. array_vec_len at ≡ axes_of (coordinates_of locations.now)) locations.now }
     requires few { length locations.now ≤ 128 }
-    ensures value { IfOk result (λ order. order ≡ order_of (places_of locations.now)) }
-    ensures masters { IfOk result (λ order. IsOrder (places_of locations.now) order) }
-    ensures sound { IfOk result (λ _. model_fault (places_of locations.now) ≡ None) }
-    ensures fault { IfErr result (λ stop. stop ≢ ModelStop.NoMemory → model_fault (places_of locations.now) ≡ Some stop) }
+    ensures value { IfOk result (λ order. order ≡ order_of (coordinates_of locations.now)) }
+    ensures masters { IfOk result (λ order. IsOrder (coordinates_of locations.now) order) }
+    ensures sound { IfOk result (λ _. model_fault (coordinates_of locations.now) ≡ None) }
+    ensures fault { IfErr result (λ stop. stop ≢ ModelStop.NoMemory → model_fault (coordinates_of locations.now) ≡ Some stop) }
 {
     let locations = locations.as_slice();
     if let Some(stop) = model_fault(locations) {
@@ -132,12 +132,12 @@ pub fn in_order(
     locations: &Seq<Location>,
     order: &Seq<u32>,
 ) -> Result<Seq<Location>, NoMemory>
-    requires { IsOrder (places_of locations.now) order.now }
-    ensures value { IfOk result (λ sorted. places_of sorted ≡ places_at (places_of locations.now) order.now) }
-    ensures masters { IfOk result (λ sorted. AreMasters (axes_of (places_of sorted)) (places_of sorted)) }
-    ensures axes { IfOk result (λ sorted. axes_of (places_of sorted) ≡ axes_of (places_of locations.now)) }
+    requires { IsOrder (coordinates_of locations.now) order.now }
+    ensures value { IfOk result (λ sorted. coordinates_of sorted ≡ locations_at (coordinates_of locations.now) order.now) }
+    ensures masters { IfOk result (λ sorted. AreMasters (axes_of (coordinates_of sorted)) (coordinates_of sorted)) }
+    ensures axes { IfOk result (λ sorted. axes_of (coordinates_of sorted) ≡ axes_of (coordinates_of locations.now)) }
     ensures count { IfOk result (λ sorted. length sorted ≡ length locations.now) }
-    ensures normalised { IfOk result (λ sorted. AreNormalisedPlaces (places_of locations.now) → AreNormalisedPlaces (places_of sorted)) }
+    ensures normalised { IfOk result (λ sorted. AreNormalisedLocations (coordinates_of locations.now) → AreNormalisedLocations (coordinates_of sorted)) }
 {
     let locations = locations.as_slice();
     let numbers = order.as_slice();

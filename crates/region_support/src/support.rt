@@ -2,22 +2,22 @@ ghost use Rattle.std.specs.Prelude.{◌≡◌, ◌≤◌, ℕ, length, All, IfOk
 ghost use Rattle.std.specs.List.{AllByRecursion};
 ghost use Rattle.arrayvec.specs.ArrayVec.{array_vec_len};
 ghost use Rattle.region_support.specs.MasterOrder.{AreMasters, axes_of};
-ghost use Rattle.region_support.specs.Places.{places_of, regions_in};
-ghost use Rattle.region_support.specs.Regions.{first_from, cut_by_all, regions_of, AreTriangular, FirstIsWhole, AreNoneIfIgnored, AreNormalisedPlaces, AreNormalisedRegions};
+ghost use Rattle.region_support.specs.Coordinates.{coordinates_of, regions_in};
+ghost use Rattle.region_support.specs.Regions.{first_from, cut_by_all, regions_of, AreTriangular, FirstIsWhole, AreNoneIfIgnored, AreNormalisedLocations, AreNormalisedRegions};
 
 use crate::cut::cut_by;
 use crate::first::first_region;
 use crate::{Location, Support};
 use arrayvec::ArrayVec;
-use fixpoint::Fix;
 use basics::{NoMemory, Seq};
+use fixpoint::Fix;
 use std::alloc::Global;
 use variation_rules::Triple;
 
 // Writes the region of a master among all, cut by the earlier ones in turn.
 fn write_region(masters: &[Location], earlier: &[Location], at: &Location, region: &mut [Triple])
     requires { length region.old ≡ array_vec_len at.now }
-    ensures { region.new ≡ cut_by_all (first_from (places_of masters.now) 0 at.now.items) (places_of earlier.now) }
+    ensures { region.new ≡ cut_by_all (first_from (coordinates_of masters.now) 0 at.now.items) (coordinates_of earlier.now) }
 {
     first_region(masters, at.as_slice(), region);
     for other in earlier {
@@ -42,7 +42,7 @@ fn blank(axes: usize) -> Support
 
 // The region of a master among all, cut by the earlier ones in turn.
 fn region(masters: &[Location], earlier: &[Location], at: &Location) -> Support
-    ensures { result.items ≡ cut_by_all (first_from (places_of masters.now) 0 at.now.items) (places_of earlier.now) }
+    ensures { result.items ≡ cut_by_all (first_from (coordinates_of masters.now) 0 at.now.items) (coordinates_of earlier.now) }
 {
     let mut support = blank(at.len());
     write_region(masters, earlier, at, support.as_mut_slice());
@@ -56,15 +56,15 @@ fn region(masters: &[Location], earlier: &[Location], at: &Location) -> Support
 /// axes count alone: an axis on which a master is at the default is 0, 0, 0 in its region, and the
 /// default's region is whole everywhere.
 pub fn boxes(alloc: Global, sorted: &Seq<Location>) -> Result<Seq<Support>, NoMemory>
-    requires masters { AreMasters (axes_of (places_of sorted.now)) (places_of sorted.now) }
+    requires masters { AreMasters (axes_of (coordinates_of sorted.now)) (coordinates_of sorted.now) }
     requires few { length sorted.now ≤ 128 }
-    ensures value { IfOk result (λ supports. regions_in supports ≡ regions_of (places_of sorted.now)) }
+    ensures value { IfOk result (λ supports. regions_in supports ≡ regions_of (coordinates_of sorted.now)) }
     ensures count { IfOk result (λ supports. length supports ≡ length sorted.now) }
-    ensures lengths { IfOk result (λ supports. All (λ support. array_vec_len support ≡ axes_of (places_of sorted.now)) supports) }
-    ensures triangular { IfOk result (λ supports. AreTriangular (regions_in supports) (places_of sorted.now)) }
+    ensures lengths { IfOk result (λ supports. All (λ support. array_vec_len support ≡ axes_of (coordinates_of sorted.now)) supports) }
+    ensures triangular { IfOk result (λ supports. AreTriangular (regions_in supports) (coordinates_of sorted.now)) }
     ensures default { IfOk result (λ supports. FirstIsWhole (regions_in supports)) }
     ensures none { IfOk result (λ supports. AreNoneIfIgnored (regions_in supports)) }
-    ensures normalised { IfOk result (λ supports. AreNormalisedPlaces (places_of sorted.now) → AreNormalisedRegions (regions_in supports)) }
+    ensures normalised { IfOk result (λ supports. AreNormalisedLocations (coordinates_of sorted.now) → AreNormalisedRegions (regions_in supports)) }
 {
     let masters = sorted.as_slice();
     let mut supports = Seq::new(alloc);

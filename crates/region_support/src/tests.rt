@@ -3,8 +3,8 @@ ghost use Rattle.arrayvec.specs.ArrayVec.{array_vec_len};
 
 use crate::{Location, ModelStop, Support, Triple, boxes, in_order, order, scalar};
 use arrayvec::ArrayVec;
-use fixpoint::Fix;
 use basics::{NoMemory, Seq};
+use fixpoint::Fix;
 use std::alloc::Global;
 
 type Axis = (i32, i32, i32);

@@ -111,7 +111,7 @@ of_run wanted text values s =
     let class = s.0.0 in let n = length values in let run = s.0.2 in
     record {
       first = control_byte class n;
-      front = control_byte class n ∷ [];
+      prefix = control_byte class n ∷ [];
       back = flat_map (value_bytes class) values;
       split = s.0.1 ∙ run_bytes class values;
       stands = (refl, control_below class n run.some run.few);
@@ -123,7 +123,7 @@ unfolding delta_run_at
 run_reads wanted =
     same_reads (ControlledRun wanted) (λ text values. IsRunText text values × (length values ≤ wanted)) (delta_run_at wanted) (run_of wanted) (of_run wanted)
     (then_reads (Spells one_byte (λ n. n < 2 ^ 8)) (RunOf wanted) byte_at (λ byte bytes. delta_control byte >>= λ control. cond (ltb wanted control.1) None (many (delta_at control.0) control.1 bytes)) byte_reads
-    (λ front byte stands. given_reads (delta_control byte) (ValuesOf wanted) (λ control bytes. cond (ltb wanted control.1) None (many (delta_at control.0) control.1 bytes))
+    (λ prefix byte stands. given_reads (delta_control byte) (ValuesOf wanted) (λ control bytes. cond (ltb wanted control.1) None (many (delta_at control.0) control.1 bytes))
     (λ control. unless_reads (ltb wanted control.1) (Count (Spells (value_bytes control.0) (HoldsDelta control.0)) control.1) (many (delta_at control.0) control.1)
     (many_reads (Spells (value_bytes control.0) (HoldsDelta control.0)) (delta_at control.0) (delta_reads control.0) control.1))))
 
@@ -135,7 +135,7 @@ run_is_some text values run = run.2.some
 abbrev run_text : DeltaRun → List ℕ
 run_text run = delta_bytes run.class run.values
 
--- runs one behind another are delta runs, and these are such
+-- runs one after another are delta runs, and these are such
 are_delta_runs : (text : List ℕ) (runs : List (List ℤ)) → Many IsRunText text runs → (delta_runs : List DeltaRun) × AreDeltaRuns delta_runs text (joined runs)
 are_delta_runs text [] s = ([], record { each = All-nil IsDeltaRun; spelled = s; meant = refl })
 are_delta_runs text (values ∷ runs) s =

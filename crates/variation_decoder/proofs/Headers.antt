@@ -9,7 +9,7 @@ use Rattle.std.proofs.lemmas.Option.{same_Some}
 use Rattle.variation_decoder.specs.declared.header.Head.{Head}
 use Rattle.variation_rules.specs.declared.region.Triple.{Triple}
 use Rattle.variation_rules.specs.Fields.{word, signed_word}
-use Rattle.variation_rules.specs.TupleVariations.{Peak, embedded, shared, Ends, Header, peak_bits, intermediate_bits, private_bits, tuple_index, peak_bytes, intermediate_bytes, header_bytes, IsTuple, PeaksAt, plain_triple, triples, region_of, AreEnds, HasRegion}
+use Rattle.variation_rules.specs.TupleVariations.{Peak, embedded, shared, Ends, Header, peak_bits, intermediate_bits, private_bits, tuple_index, peak_bytes, intermediate_bytes, header_bytes, IsTuple, PeaksAt, implied_triple, triples, region_of, AreEnds, HasRegion}
 use Rattle.variation_decoder.specs.Reading.{word_at, signed_word_at}
 use Rattle.variation_decoder.specs.Tuples.{has_bits, coordinates_at, is_coordinate, is_tuple, shared_peak, peak_at, region_at, header_at}
 use Rattle.variation_decoder.proofs.Bits.{bit, bit_below, low_twelve, no_bits, none_of_no_bits, digit_is, bits_are}
@@ -149,15 +149,15 @@ text_of_peak axes peaks (shared index) peak at =
 -- ---- the region
 
 abbrev pub RegionText : ℕ → Bool → List ℤ → List ℕ → List Triple → Type 0
-RegionText axes false peak = Is (map plain_triple peak)
+RegionText axes false peak = Is (map implied_triple peak)
 RegionText axes true peak = Then (CoordinatesText axes) (λ starts. Made (λ ends. triples starts peak ends) (CoordinatesText axes))
 
 region_reads : (axes : ℕ) (intermediate : Bool) (peak : List ℤ) → IsReader (RegionText axes intermediate peak) (region_at axes intermediate peak)
 unfolding region_at
-region_reads axes false peak = done_reads (map plain_triple peak)
+region_reads axes false peak = done_reads (map implied_triple peak)
 region_reads axes true peak =
     then_reads (CoordinatesText axes) (λ starts. Made (λ ends. triples starts peak ends) (CoordinatesText axes)) (coordinates_at axes) (λ starts bytes. coordinates_at axes bytes >>= λ ends. Some (triples starts peak ends.0, ends.1)) (coordinates_read axes)
-    (λ front starts stands. made_reads (λ ends. triples starts peak ends) (CoordinatesText axes) (coordinates_at axes) (coordinates_read axes))
+    (λ prefix starts stands. made_reads (λ ends. triples starts peak ends) (CoordinatesText axes) (coordinates_at axes) (coordinates_read axes))
 
 -- an intermediate region of the grammar with this bit, or none
 abbrev IsRegion : ℕ → Bool → List ℤ → List ℕ → List Triple → Type 0
@@ -181,7 +181,7 @@ text_of_region axes peak (Some range) are = (
   refl,
   record {
     first = range.starts;
-    front = flat_map signed_word range.starts;
+    prefix = flat_map signed_word range.starts;
     back = flat_map signed_word range.ends;
     split = refl;
     stands = (refl, are.0);
@@ -216,11 +216,11 @@ private_is false = refl
 header_of : (axes : ℕ) (peaks : List (List ℤ)) (text : List ℕ) (head : Head) → FieldsText axes peaks text head → HeaderText axes peaks text head
 header_of axes peaks text head s =
     let size = s.first in let n = s.next.first in let inner = s.next.next.1 in
-    let peak = peak_of axes peaks n inner.front inner.first inner.stands in
+    let peak = peak_of axes peaks n inner.prefix inner.first inner.stands in
     let region = region_is_of axes (has_bits 16384 n) inner.first inner.back inner.next.0 inner.next.1 in
     let header : Header = record { peak = peak.0; intermediate = region.0; private = has_bits 8192 n } in
     let index : n ≡ tuple_index header = omega (arith, index_parts n s.next.stands.1 s.next.next.0, peak.3, region.4, private_is (has_bits 8192 n)) in
-    let parts : inner.front ++ inner.back ≡ peak_bytes peak.0 ++ intermediate_bytes region.0 =
+    let parts : inner.prefix ++ inner.back ≡ peak_bytes peak.0 ++ intermediate_bytes region.0 =
     ap (λ (t : List ℕ). t ++ inner.back) peak.2 ∙ ap (λ (t : List ℕ). peak_bytes peak.0 ++ t) region.2 in
     let rest : s.back ≡ word (tuple_index header) ++ (peak_bytes peak.0 ++ intermediate_bytes region.0) =
     s.next.split ∙ ap (λ (t : List ℕ). t ++ s.next.back) (s.next.stands.0 ∙ ap word index) ∙ ap (λ (t : List ℕ). word (tuple_index header) ++ t) (inner.split ∙ parts) in
@@ -243,13 +243,13 @@ of_header axes peaks text head s =
     let made : head ≡ make_head head.size n head.region = ap (λ (b : Bool). record head { private = b }) (sym (is_private ∙ s.3)) in
     record {
       first = head.size;
-      front = word head.size;
+      prefix = word head.size;
       back = word n ++ (peak_bytes header.peak ++ intermediate_bytes header.intermediate);
       split = s.4;
       stands = (refl, s.2);
       next = record {
         first = n;
-        front = word n;
+        prefix = word n;
         back = peak_bytes header.peak ++ intermediate_bytes header.intermediate;
         split = refl;
         stands = (refl, below);
@@ -257,7 +257,7 @@ of_header axes peaks text head s =
           reserved_bit inside.0 between.0 header.private inside.1 n inside.2 sum,
           record {
             first = peak;
-            front = peak_bytes header.peak;
+            prefix = peak_bytes header.peak;
             back = intermediate_bytes header.intermediate;
             split = refl;
             stands = inside.4 n (embedded_bit inside.0 between.0 header.private inside.1 n inside.2 sum) (low_bits inside.0 between.0 header.private inside.1 n inside.2 sum);
@@ -273,10 +273,10 @@ header_reads axes peaks =
     same_reads (FieldsText axes peaks) (HeaderText axes peaks) (header_at axes peaks) (header_of axes peaks) (of_header axes peaks)
     (then_reads Words (λ size. Then Words (λ index. IndexedText axes peaks size index)) word_at
     (λ size bytes. word_at bytes >>= λ index. cond (has_bits 4096 index.0) None (peak_at axes peaks index.0 index.1 >>= λ peak. region_at axes (has_bits 16384 index.0) peak.0 peak.1 >>= λ region. Some (make_head size index.0 region.0, region.1))) word_reads
-    (λ front size stands. then_reads Words (λ index. IndexedText axes peaks size index) word_at
+    (λ prefix size stands. then_reads Words (λ index. IndexedText axes peaks size index) word_at
     (λ index bytes. cond (has_bits 4096 index) None (peak_at axes peaks index bytes >>= λ peak. region_at axes (has_bits 16384 index) peak.0 peak.1 >>= λ region. Some (make_head size index region.0, region.1))) word_reads
-    (λ front index stands. unless_reads (has_bits 4096 index) (Then (PeakText axes peaks index) (λ peak. Made (make_head size index) (RegionText axes (has_bits 16384 index) peak)))
+    (λ prefix index stands. unless_reads (has_bits 4096 index) (Then (PeakText axes peaks index) (λ peak. Made (make_head size index) (RegionText axes (has_bits 16384 index) peak)))
     (λ bytes. peak_at axes peaks index bytes >>= λ peak. region_at axes (has_bits 16384 index) peak.0 peak.1 >>= λ region. Some (make_head size index region.0, region.1))
     (then_reads (PeakText axes peaks index) (λ peak. Made (make_head size index) (RegionText axes (has_bits 16384 index) peak)) (peak_at axes peaks index)
     (λ peak bytes. region_at axes (has_bits 16384 index) peak bytes >>= λ region. Some (make_head size index region.0, region.1)) (peak_reads axes peaks index)
-    (λ front peak stands. made_reads (make_head size index) (RegionText axes (has_bits 16384 index) peak) (region_at axes (has_bits 16384 index) peak) (region_reads axes (has_bits 16384 index) peak))))))
+    (λ prefix peak stands. made_reads (make_head size index) (RegionText axes (has_bits 16384 index) peak) (region_at axes (has_bits 16384 index) peak) (region_reads axes (has_bits 16384 index) peak))))))

@@ -1,4 +1,4 @@
--- Loops that read: what was read before, in front of what is still read, is what reading gives from the start.
+-- Loops that read: what was read before, before what is still read, is what reading gives from the start.
 use Rattle.std.proofs.Common.{◌≡◌, ℕ, zero, suc, ◌-◌, ◌+◌, ◌≤◌, ◌<◌, List, [], ◌∷◌, ◌++◌, length, Option, Some, None, refl, sym, ap, ◌∙◌, append_assoc, length-append, arith}
 use Rattle.std.proofs.lemmas.List.{append-nil}
 use Rattle.std.proofs.lemmas.Option.{same_Some}
@@ -8,38 +8,38 @@ use Rattle.variation_decoder.specs.Reading.{Fails, many, filled_by, filled}
 use Rattle.basics.specs.Optional.{◌>>=◌}
 use Rattle.basics.proofs.Optional.{bind_some, bind_same}
 
--- what was read before, in front of what is still read
-abbrev pub with_front : {A : Type 0} → List A → Option (List A × List ℕ) → Option (List A × List ℕ)
-with_front front read = read >>= λ x. Some (front ++ x.0, x.1)
+-- what was read before, before what is still read
+abbrev pub with_prefix : {A : Type 0} → List A → Option (List A × List ℕ) → Option (List A × List ℕ)
+with_prefix prefix read = read >>= λ x. Some (prefix ++ x.0, x.1)
 
-pub regroup : {A : Type 0} (front next : List A) (read : Option (List A × List ℕ)) → with_front front (read >>= λ x. Some (next ++ x.0, x.1)) ≡ with_front (front ++ next) read
-regroup front next (Some x) = ap (λ xs. Some (xs, x.1)) (sym (append_assoc front next x.0))
-regroup front next None = refl
+pub regroup : {A : Type 0} (prefix next : List A) (read : Option (List A × List ℕ)) → with_prefix prefix (read >>= λ x. Some (next ++ x.0, x.1)) ≡ with_prefix (prefix ++ next) read
+regroup prefix next (Some x) = ap (λ xs. Some (xs, x.1)) (sym (append_assoc prefix next x.0))
+regroup prefix next None = refl
 
 module _ {A : Type 0} (at : List ℕ → Option (A × List ℕ)) where
-  pub many_goes_on : (front : List A) (count i : ℕ) (bytes : List ℕ) (x : A) (after : List ℕ) (total : Option (List A × List ℕ)) → i < count → at bytes ≡ Some (x, after)
-      → with_front front (many at (count - i) bytes) ≡ total → with_front (front ++ x ∷ []) (many at (count - (i + 1)) after) ≡ total
+  pub many_goes_on : (prefix : List A) (count i : ℕ) (bytes : List ℕ) (x : A) (after : List ℕ) (total : Option (List A × List ℕ)) → i < count → at bytes ≡ Some (x, after)
+      → with_prefix prefix (many at (count - i) bytes) ≡ total → with_prefix (prefix ++ x ∷ []) (many at (count - (i + 1)) after) ≡ total
   unfolding many
-  many_goes_on front count i bytes x after total lt h so_far =
+  many_goes_on prefix count i bytes x after total lt h so_far =
       let k : count - i ≡ suc (count - (i + 1)) = omega arith in
-      let one : with_front front (many at (count - i) bytes) ≡ with_front (front ++ x ∷ []) (many at (count - (i + 1)) after) = rw (k, h) (regroup front (x ∷ []) (many at (count - (i + 1)) after)) in
+      let one : with_prefix prefix (many at (count - i) bytes) ≡ with_prefix (prefix ++ x ∷ []) (many at (count - (i + 1)) after) = rw (k, h) (regroup prefix (x ∷ []) (many at (count - (i + 1)) after)) in
       sym one ∙ so_far
 
-  pub many_ends : (e : Refusal) (front : List A) (count i : ℕ) (bytes : List ℕ) (total : Option (List A × List ℕ)) → i < count → Fails e (at bytes)
-      → with_front front (many at (count - i) bytes) ≡ total → Fails e total
+  pub many_ends : (e : Refusal) (prefix : List A) (count i : ℕ) (bytes : List ℕ) (total : Option (List A × List ℕ)) → i < count → Fails e (at bytes)
+      → with_prefix prefix (many at (count - i) bytes) ≡ total → Fails e total
   unfolding many
-  many_ends NoMemory front count i bytes total lt h so_far = tt
-  many_ends NoReading front count i bytes total lt h so_far =
+  many_ends NoMemory prefix count i bytes total lt h so_far = tt
+  many_ends NoReading prefix count i bytes total lt h so_far =
       let k : count - i ≡ suc (count - (i + 1)) = omega arith in
-      let one : with_front front (many at (count - i) bytes) ≡ None = rw (k, h) refl in
+      let one : with_prefix prefix (many at (count - i) bytes) ≡ None = rw (k, h) refl in
       sym so_far ∙ one
 
-  pub many_is_done : (front : List A) (count i : ℕ) (bytes : List ℕ) (total : Option (List A × List ℕ)) → count ≤ i
-      → with_front front (many at (count - i) bytes) ≡ total → total ≡ Some (front, bytes)
+  pub many_is_done : (prefix : List A) (count i : ℕ) (bytes : List ℕ) (total : Option (List A × List ℕ)) → count ≤ i
+      → with_prefix prefix (many at (count - i) bytes) ≡ total → total ≡ Some (prefix, bytes)
   unfolding many
-  many_is_done front count i bytes total le so_far =
+  many_is_done prefix count i bytes total le so_far =
       let k : count - i ≡ 0 = omega arith in
-      let one : with_front front (many at (count - i) bytes) ≡ Some (front, bytes) = rw k (ap (λ (xs : List A). Some (xs, bytes)) (append-nil front)) in
+      let one : with_prefix prefix (many at (count - i) bytes) ≡ Some (prefix, bytes) = rw k (ap (λ (xs : List A). Some (xs, bytes)) (append-nil prefix)) in
       sym so_far ∙ one
 
 -- so many values are read as so many
@@ -84,30 +84,30 @@ module _ {A : Type 0} (run_at : ℕ → List ℕ → Option (List A × List ℕ)
       (λ run e. ap (λ read. read >>= λ more. Some (run.0 ++ more.0, more.1))
       (enough n (suc n - length run.0) (suc n - length run.0) run.1 (omega (arith, some (suc n) bytes run e)) (omega arith)))
 
-  pub runs_go_on : (front : List A) (wanted : ℕ) (bytes : List ℕ) (run : List A) (after : List ℕ) (total : Option (List A × List ℕ)) → length front < wanted → run_at (wanted - length front) bytes ≡ Some (run, after)
-      → with_front front (filled run_at (wanted - length front) bytes) ≡ total → with_front (front ++ run) (filled run_at (wanted - length (front ++ run)) after) ≡ total
-  runs_go_on front wanted bytes run after total lt h so_far =
-      let n = wanted - length front - 1 in
-      let k : wanted - length front ≡ suc n = omega arith in
-      let left : wanted - length (front ++ run) ≡ suc n - length run = omega (arith, length-append front run) in
+  pub runs_go_on : (prefix : List A) (wanted : ℕ) (bytes : List ℕ) (run : List A) (after : List ℕ) (total : Option (List A × List ℕ)) → length prefix < wanted → run_at (wanted - length prefix) bytes ≡ Some (run, after)
+      → with_prefix prefix (filled run_at (wanted - length prefix) bytes) ≡ total → with_prefix (prefix ++ run) (filled run_at (wanted - length (prefix ++ run)) after) ≡ total
+  runs_go_on prefix wanted bytes run after total lt h so_far =
+      let n = wanted - length prefix - 1 in
+      let k : wanted - length prefix ≡ suc n = omega arith in
+      let left : wanted - length (prefix ++ run) ≡ suc n - length run = omega (arith, length-append prefix run) in
       let read : run_at (suc n) bytes ≡ Some (run, after) = rw k at h in
-      let one : with_front front (filled run_at (wanted - length front) bytes) ≡ with_front (front ++ run) (filled run_at (wanted - length (front ++ run)) after) = rw (k, filled_step n bytes, read, left) (regroup front run (filled run_at (suc n - length run) after)) in
+      let one : with_prefix prefix (filled run_at (wanted - length prefix) bytes) ≡ with_prefix (prefix ++ run) (filled run_at (wanted - length (prefix ++ run)) after) = rw (k, filled_step n bytes, read, left) (regroup prefix run (filled run_at (suc n - length run) after)) in
       sym one ∙ so_far
 
-  pub runs_end : (e : Refusal) (front : List A) (wanted : ℕ) (bytes : List ℕ) (total : Option (List A × List ℕ)) → length front < wanted → Fails e (run_at (wanted - length front) bytes)
-      → with_front front (filled run_at (wanted - length front) bytes) ≡ total → Fails e total
-  runs_end NoMemory front wanted bytes total lt h so_far = tt
-  runs_end NoReading front wanted bytes total lt h so_far =
-      let n = wanted - length front - 1 in
-      let k : wanted - length front ≡ suc n = omega arith in
+  pub runs_end : (e : Refusal) (prefix : List A) (wanted : ℕ) (bytes : List ℕ) (total : Option (List A × List ℕ)) → length prefix < wanted → Fails e (run_at (wanted - length prefix) bytes)
+      → with_prefix prefix (filled run_at (wanted - length prefix) bytes) ≡ total → Fails e total
+  runs_end NoMemory prefix wanted bytes total lt h so_far = tt
+  runs_end NoReading prefix wanted bytes total lt h so_far =
+      let n = wanted - length prefix - 1 in
+      let k : wanted - length prefix ≡ suc n = omega arith in
       let none : run_at (suc n) bytes ≡ None = rw k at h in
-      let one : with_front front (filled run_at (wanted - length front) bytes) ≡ None = rw (k, filled_step n bytes, none) refl in
+      let one : with_prefix prefix (filled run_at (wanted - length prefix) bytes) ≡ None = rw (k, filled_step n bytes, none) refl in
       sym so_far ∙ one
 
-  pub runs_are_done : (front : List A) (wanted : ℕ) (bytes : List ℕ) (total : Option (List A × List ℕ)) → wanted ≤ length front
-      → with_front front (filled run_at (wanted - length front) bytes) ≡ total → total ≡ Some (front, bytes)
+  pub runs_are_done : (prefix : List A) (wanted : ℕ) (bytes : List ℕ) (total : Option (List A × List ℕ)) → wanted ≤ length prefix
+      → with_prefix prefix (filled run_at (wanted - length prefix) bytes) ≡ total → total ≡ Some (prefix, bytes)
   unfolding filled_by
-  runs_are_done front wanted bytes total le so_far =
-      let k : wanted - length front ≡ 0 = omega arith in
-      let one : with_front front (filled run_at (wanted - length front) bytes) ≡ Some (front, bytes) = rw k (ap (λ (xs : List A). Some (xs, bytes)) (append-nil front)) in
+  runs_are_done prefix wanted bytes total le so_far =
+      let k : wanted - length prefix ≡ 0 = omega arith in
+      let one : with_prefix prefix (filled run_at (wanted - length prefix) bytes) ≡ Some (prefix, bytes) = rw k (ap (λ (xs : List A). Some (xs, bytes)) (append-nil prefix)) in
       sym so_far ∙ one

@@ -96,7 +96,7 @@ of_run wanted text differences s =
     let control : (class, n) ≡ point_control (control_byte class n) = sym (control_again class n run.some run.few) in
     record {
       first = control_byte class n;
-      front = control_byte class n ∷ [];
+      prefix = control_byte class n ∷ [];
       back = flat_map (difference_bytes class) differences;
       split = s.0.1 ∙ run_bytes class differences;
       stands = (refl, control_below class n run.some run.few);
@@ -109,7 +109,7 @@ unfolding difference_run_at
 run_reads wanted =
     same_reads (ControlledRun wanted) (λ text differences. IsRunText text differences × (length differences ≤ wanted)) (difference_run_at wanted) (run_of wanted) (of_run wanted)
     (then_reads (Spells one_byte (λ n. n < 2 ^ 8)) (RunOf wanted) byte_at (λ byte bytes. cond (ltb wanted (point_control byte).1) None (many (difference_at (point_control byte).0) (point_control byte).1 bytes)) byte_reads
-    (λ front byte stands. unless_reads (ltb wanted (point_control byte).1) (Count (Spells (difference_bytes (point_control byte).0) (HoldsDifference (point_control byte).0)) (point_control byte).1) (many (difference_at (point_control byte).0) (point_control byte).1)
+    (λ prefix byte stands. unless_reads (ltb wanted (point_control byte).1) (Count (Spells (difference_bytes (point_control byte).0) (HoldsDifference (point_control byte).0)) (point_control byte).1) (many (difference_at (point_control byte).0) (point_control byte).1)
     (many_reads (Spells (difference_bytes (point_control byte).0) (HoldsDifference (point_control byte).0)) (difference_at (point_control byte).0) (difference_reads (point_control byte).0) (point_control byte).1)))
 
 -- ---- the runs of a list
@@ -166,7 +166,7 @@ differences_read wanted =
 abbrev two_bytes : ℕ → ℕ → ℕ
 two_bytes first second = from_be_bytes w16 ((first - 128) ∷ second ∷ [])
 
--- one byte below 128, or another behind it
+-- one byte below 128, or another after it
 abbrev CountFrom : ℕ → List ℕ → ℕ → Type 0
 CountFrom first text count =
     ((ltb first 128 ≡ true) × Is first text count)
@@ -197,12 +197,12 @@ count_of text count s =
 of_count : (text : List ℕ) (count : ℕ) → IsCount count text → CountText text count
 of_count text count s =
     elim s [
-      | inl one ↦ record { first = count; front = count ∷ []; back = []; split = one.1; stands = (refl, omega (arith, one.0)); next = inl (lt-ltb count 128 one.0, (refl, refl)) }
+      | inl one ↦ record { first = count; prefix = count ∷ []; back = []; split = one.1; stands = (refl, omega (arith, one.0)); next = inl (lt-ltb count 128 one.0, (refl, refl)) }
       | inr two ↦
           let is : count ≡ two_bytes (128 + count / 256) (count % 256) = omega arith in
           record {
             first = 128 + count / 256;
-            front = (128 + count / 256) ∷ [];
+            prefix = (128 + count / 256) ∷ [];
             back = (count % 256) ∷ [];
             split = two.1;
             stands = (refl, omega (arith, two.0));
@@ -215,7 +215,7 @@ unfolding count_at
 count_reads =
     same_reads CountText (λ text count. IsCount count text) count_at count_of of_count
     (then_reads (Spells one_byte (λ n. n < 2 ^ 8)) CountFrom byte_at (λ first bytes. cond (ltb first 128) (Some (first, bytes)) (byte_at bytes >>= λ second. Some (two_bytes first second.0, second.1))) byte_reads
-    (λ front first stands. either_reads (ltb first 128) (Is first) (Made (two_bytes first) (Spells one_byte (λ n. n < 2 ^ 8)))
+    (λ prefix first stands. either_reads (ltb first 128) (Is first) (Made (two_bytes first) (Spells one_byte (λ n. n < 2 ^ 8)))
     (λ bytes. Some (first, bytes)) (λ bytes. byte_at bytes >>= λ second. Some (two_bytes first second.0, second.1))
     (done_reads first) (made_reads (two_bytes first) (Spells one_byte (λ n. n < 2 ^ 8)) byte_at byte_reads)))
 
@@ -232,9 +232,9 @@ rising_means before low end (difference ∷ differences) points e =
     let room = unless_some (ltb point low || leb end point) (rising point (point + 1) end differences >>= λ points. Some (point ∷ points)) points e in
     let more = bind_some (rising point (point + 1) end differences) (λ points. Some (point ∷ points)) points room.1 in
     let tests = or_parts (ltb point low) (leb end point) room.0 in
-    let behind = rising_means point (point + 1) end differences more.0 more.1 in
+    let after = rising_means point (point + 1) end differences more.0 more.1 in
     subst (λ (ps : List ℕ). (ps ≡ point ∷ points_after point differences) × RisesWithin low end ps) (same_Some (point ∷ more.0) points more.2)
-    (ap (λ (ps : List ℕ). point ∷ ps) behind.0, (ltb-false point low tests.0, leb-false end point tests.1, behind.1))
+    (ap (λ (ps : List ℕ). point ∷ ps) after.0, (ltb-false point low tests.0, leb-false end point tests.1, after.1))
 
 rising_again : (before low end : ℕ) (differences : List ℕ) → RisesWithin low end (points_after before differences) → rising before low end differences ≡ Some (points_after before differences)
 unfolding rising
@@ -271,14 +271,14 @@ listed_of total text points s =
     let means = rising_means 0 0 total inner.first found inner.next.1 in
     let len : length points ≡ s.first = ap length is ∙ ap length means.0 ∙ length_points_after 0 inner.first ∙ inner.stands.1 in
     let some : 0 < s.first = some_of_test s.first s.next.0 in
-    let rest : s.back ≡ flat_map run_text are.0 = inner.split ∙ ap (λ (t : List ℕ). inner.front ++ t) inner.next.2.0 ∙ append-nil inner.front ∙ are.2 in
+    let rest : s.back ≡ flat_map run_text are.0 = inner.split ∙ ap (λ (t : List ℕ). inner.prefix ++ t) inner.next.2.0 ∙ append-nil inner.prefix ∙ are.2 in
     record {
-      count_bytes = s.front;
+      count_bytes = s.prefix;
       runs = are.0;
       some = omega arith;
-      count = subst (λ (n : ℕ). IsCount n s.front) (sym len) s.stands;
+      count = subst (λ (n : ℕ). IsCount n s.prefix) (sym len) s.stands;
       each = are.1;
-      spelled = s.split ∙ ap (λ (t : List ℕ). s.front ++ t) rest;
+      spelled = s.split ∙ ap (λ (t : List ℕ). s.prefix ++ t) rest;
       meant = is ∙ means.0 ∙ ap (points_after 0) are.3;
       rises = subst (λ (ps : List ℕ). RisesWithin 0 total ps) (sym is) means.1;
     }
@@ -290,7 +290,7 @@ of_listed total text points s =
     let listed : eqb (length points) 0 ≡ false = ne_eqb (length points) 0 (λ none. omega (arith, s.some)) in
     record {
       first = length points;
-      front = s.count_bytes;
+      prefix = s.count_bytes;
       back = flat_map run_text s.runs;
       split = s.spelled;
       stands = s.count;
@@ -298,7 +298,7 @@ of_listed total text points s =
         listed,
         record {
           first = differences;
-          front = flat_map run_text s.runs;
+          prefix = flat_map run_text s.runs;
           back = [];
           split = sym (append-nil (flat_map run_text s.runs));
           stands = ((s.runs, s.each, refl, refl), len);
@@ -313,11 +313,11 @@ listed_read total =
     same_reads (ListedText total) (AreListedPoints total) (listed_points_at total) (listed_of total) (of_listed total)
     (then_reads (λ text count. IsCount count text) (λ count text points. (eqb count 0 ≡ false) × SummedRuns total count text points) count_at
     (λ count bytes. cond (eqb count 0) None (differences_at count bytes >>= λ differences. rising 0 0 total differences.0 >>= λ points. Some (points, differences.1))) count_reads
-    (λ front count stands. unless_reads (eqb count 0) (SummedRuns total count) (λ bytes. differences_at count bytes >>= λ differences. rising 0 0 total differences.0 >>= λ points. Some (points, differences.1))
+    (λ prefix count stands. unless_reads (eqb count 0) (SummedRuns total count) (λ bytes. differences_at count bytes >>= λ differences. rising 0 0 total differences.0 >>= λ points. Some (points, differences.1))
     (then_reads (λ text differences. AreDifferences text differences × (length differences ≡ count)) (Summed total) (differences_at count) (λ differences bytes. rising 0 0 total differences >>= λ points. Some (points, bytes)) (differences_read count)
-    (λ front differences stands. given_reads (rising 0 0 total differences) Is (λ points bytes. Some (points, bytes)) (λ points. done_reads points)))))
+    (λ prefix differences stands. given_reads (rising 0 0 total differences) Is (λ points bytes. Some (points, bytes)) (λ points. done_reads points)))))
 
--- all points behind a single 0, or those listed
+-- all points after a single 0, or those listed
 points_taken : (total : ℕ) (bytes : List ℕ) (read : List ℕ × List ℕ) → IsBytes bytes → points_at total bytes ≡ Some read → Takes (ReadsPoints total) bytes read
 unfolding points_at
 points_taken total [] read fits e = absurd cc

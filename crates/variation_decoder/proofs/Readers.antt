@@ -1,5 +1,5 @@
--- Readers and what they read: a reader of a relation takes a text that stands for its value from the front of
--- the bytes, and each text that stands for a value is read as that, whatever follows. Readers one behind another
+-- Readers and what they read: a reader of a relation takes a text that stands for its value from the start of
+-- the bytes, and each text that stands for a value is read as that, whatever follows. Readers one after another
 -- are a reader again.
 use Rattle.std.proofs.Common.{◌≡◌, ℕ, zero, suc, ◌+◌, ◌-◌, ◌<◌, ◌≤◌, ◌⊎◌, inl, inr, Bool, true, false, cond, List, [], ◌∷◌, ◌++◌, length, get_or, Option, Some, None, refl, sym, ap, subst, ◌∙◌, append_assoc, length-append, arith}
 use Rattle.std.proofs.lemmas.List.{append-nil, nil_from_length}
@@ -14,16 +14,16 @@ use Rattle.basics.proofs.Optional.{bind_some}
 abbrev pub IsBytes : List ℕ → Type 0
 IsBytes bytes = (i : ℕ) → get_or bytes i 0 < 256
 
-IsBytes-behind : (text rest : List ℕ) → IsBytes (text ++ rest) → IsBytes rest
-IsBytes-behind [] rest fits = fits
-IsBytes-behind (byte ∷ text) rest fits = IsBytes-behind text rest (λ i. fits (suc i))
+IsBytes-after : (text rest : List ℕ) → IsBytes (text ++ rest) → IsBytes rest
+IsBytes-after [] rest fits = fits
+IsBytes-after (byte ∷ text) rest fits = IsBytes-after text rest (λ i. fits (suc i))
 
-pub IsBytes-front : (text rest : List ℕ) → IsBytes (text ++ rest) → IsBytes text
-IsBytes-front [] rest fits i = omega arith
-IsBytes-front (byte ∷ text) rest fits zero = fits 0
-IsBytes-front (byte ∷ text) rest fits (suc i) = IsBytes-front text rest (λ j. fits (suc j)) i
+pub IsBytes-prefix : (text rest : List ℕ) → IsBytes (text ++ rest) → IsBytes text
+IsBytes-prefix [] rest fits i = omega arith
+IsBytes-prefix (byte ∷ text) rest fits zero = fits 0
+IsBytes-prefix (byte ∷ text) rest fits (suc i) = IsBytes-prefix text rest (λ j. fits (suc j)) i
 
--- what a reader took from the front: a text that stands for the value, and the bytes behind it
+-- what a reader took from the prefix: a text that stands for the value, and the bytes after it
 pub record Takes {A : Type 0} (Stands : List ℕ → A → Type 0) (bytes : List ℕ) (read : A × List ℕ) : Type 0 where
   pub text : List ℕ
   pub parts : bytes ≡ text ++ read.1
@@ -45,34 +45,34 @@ pub whole_again : {A : Type 0} (Stands : List ℕ → A → Type 0) (at : List �
     → (text : List ℕ) (value : A) → Stands text value → at text ≡ Some (value, [])
 whole_again Stands at reads text value s = ap at (sym (append-nil text)) ∙ reads.again text value [] s
 
--- ---- one step behind another
+-- ---- one step after another
 
--- the text of a value in front of the text of what is read after it
+-- the text of a value before the text of what is read after it
 pub record Then {A B : Type 0} (First : List ℕ → A → Type 0) (Next : A → List ℕ → B → Type 0) (text : List ℕ) (value : B) : Type 0 where
   pub first : A
-  pub front : List ℕ
+  pub prefix : List ℕ
   pub back : List ℕ
-  pub split : text ≡ front ++ back
-  pub stands : First front first
+  pub split : text ≡ prefix ++ back
+  pub stands : First prefix first
   pub next : Next first back value
 
 pub then_reads : {A B : Type 0} (First : List ℕ → A → Type 0) (Next : A → List ℕ → B → Type 0) (at : List ℕ → Option (A × List ℕ)) (next : A → List ℕ → Option (B × List ℕ))
-    → IsReader First at → ((front : List ℕ) (first : A) → First front first → IsReader (Next first) (next first)) → IsReader (Then First Next) (λ bytes. at bytes >>= λ read. next read.0 read.1)
+    → IsReader First at → ((prefix : List ℕ) (first : A) → First prefix first → IsReader (Next first) (next first)) → IsReader (Then First Next) (λ bytes. at bytes >>= λ read. next read.0 read.1)
 then_reads First Next at next first_reads next_reads = record {
   takes = λ bytes read fits e.
       let step = bind_some (at bytes) (λ read. next read.0 read.1) read e in
       let taken = first_reads.takes bytes step.0 fits step.1 in
-      let behind = IsBytes-behind taken.text step.0.1 (subst IsBytes taken.parts fits) in
-      let more = (next_reads taken.text step.0.0 taken.stands).takes step.0.1 read behind step.2 in
+      let after = IsBytes-after taken.text step.0.1 (subst IsBytes taken.parts fits) in
+      let more = (next_reads taken.text step.0.0 taken.stands).takes step.0.1 read after step.2 in
       record {
         text = taken.text ++ more.text;
         parts = taken.parts ∙ ap (λ (rest : List ℕ). taken.text ++ rest) more.parts ∙ sym (append_assoc taken.text more.text read.1);
-        stands = record { first = step.0.0; front = taken.text; back = more.text; split = refl; stands = taken.stands; next = more.stands };
+        stands = record { first = step.0.0; prefix = taken.text; back = more.text; split = refl; stands = taken.stands; next = more.stands };
       };
   again = λ text value rest s.
-      let grouped : text ++ rest ≡ s.front ++ (s.back ++ rest) = ap (λ (t : List ℕ). t ++ rest) s.split ∙ append_assoc s.front s.back rest in
-      let first = first_reads.again s.front s.first (s.back ++ rest) s.stands in
-      rw (grouped, first) ((next_reads s.front s.first s.stands).again s.back value rest s.next);
+      let grouped : text ++ rest ≡ s.prefix ++ (s.back ++ rest) = ap (λ (t : List ℕ). t ++ rest) s.split ∙ append_assoc s.prefix s.back rest in
+      let first = first_reads.again s.prefix s.first (s.back ++ rest) s.stands in
+      rw (grouped, first) ((next_reads s.prefix s.first s.stands).again s.back value rest s.next);
 }
 
 -- a value that takes no bytes
@@ -158,7 +158,7 @@ same_reads Stands Means at to from reads = record {
 
 -- ---- many values
 
--- the text is the values' texts, one behind another
+-- the text is the values' texts, one after another
 abbrev pub Many : {A : Type 0} → (List ℕ → A → Type 0) → List ℕ → List A → Type 0
 Many Stands text [] = text ≡ []
 Many Stands text (value ∷ values) = (first : List ℕ) × (more : List ℕ) × (text ≡ first ++ more) × Stands first value × Many Stands more values
@@ -175,18 +175,18 @@ counted_none : {A : Type 0} (Stands : List ℕ → A → Type 0) (text : List �
 counted_none Stands text [] s = (s.0, refl)
 counted_none Stands text (value ∷ values) s = absurd cc
 
--- one value, and so many behind it
+-- one value, and so many after it
 abbrev OneMore : {A : Type 0} → (List ℕ → A → Type 0) → ℕ → List ℕ → List A → Type 0
 OneMore {A} Stands n = Then Stands (λ first. Made (λ (more : List A). first ∷ more) (Count Stands n))
 
 more_counted : {A : Type 0} (Stands : List ℕ → A → Type 0) (n : ℕ) (text : List ℕ) (values : List A) → OneMore Stands n text values → Count Stands (suc n) text values
 more_counted {A} Stands n text values s =
     let made : s.first ∷ s.next.0 ≡ values = sym s.next.2 in
-    subst (λ (xs : List A). Count Stands (suc n) text xs) made ((s.front, s.back, s.split, s.stands, s.next.1.0), ap suc s.next.1.1)
+    subst (λ (xs : List A). Count Stands (suc n) text xs) made ((s.prefix, s.back, s.split, s.stands, s.next.1.0), ap suc s.next.1.1)
 
 counted_more : {A : Type 0} (Stands : List ℕ → A → Type 0) (n : ℕ) (text : List ℕ) (values : List A) → Count Stands (suc n) text values → OneMore Stands n text values
 counted_more Stands n text [] s = absurd cc
-counted_more Stands n text (value ∷ values) s = record { first = value; front = s.0.0; back = s.0.1; split = s.0.2; stands = s.0.3; next = (values, (s.0.4, cc), refl) }
+counted_more Stands n text (value ∷ values) s = record { first = value; prefix = s.0.0; back = s.0.1; split = s.0.2; stands = s.0.3; next = (values, (s.0.4, cc), refl) }
 
 pub many_reads : {A : Type 0} (Stands : List ℕ → A → Type 0) (at : List ℕ → Option (A × List ℕ)) → IsReader Stands at → (n : ℕ) → IsReader (Count Stands n) (many at n)
 unfolding many
@@ -195,11 +195,11 @@ many_reads {A} Stands at reads zero =
 many_reads {A} Stands at reads (suc n) =
     same_reads (OneMore Stands n) (Count Stands (suc n)) (λ bytes. at bytes >>= λ first. many at n first.1 >>= λ more. Some (first.0 ∷ more.0, more.1)) (more_counted Stands n) (counted_more Stands n)
     (then_reads Stands (λ first. Made (λ (more : List A). first ∷ more) (Count Stands n)) at (λ first bytes. many at n bytes >>= λ more. Some (first ∷ more.0, more.1)) reads
-    (λ front first stands. made_reads (λ (more : List A). first ∷ more) (Count Stands n) (many at n) (many_reads Stands at reads n)))
+    (λ prefix first stands. made_reads (λ (more : List A). first ∷ more) (Count Stands n) (many at n) (many_reads Stands at reads n)))
 
 -- ---- runs of values
 
--- the values of runs, one behind another
+-- the values of runs, one after another
 abbrev pub joined : {A : Type 0} → List (List A) → List A
 joined runs = flat_map (λ run. run) runs
 
@@ -222,14 +222,14 @@ module _ {A : Type 0} (Stands : List ℕ → List A → Type 0) (run_at : ℕ �
   filled_none text values (run ∷ runs) many is len =
       absurd (omega (arith, some many.0 run many.3, ap length is, length-append run (joined runs)))
 
-  -- a run, and the values that are still wanted behind it
+  -- a run, and the values that are still wanted after it
   abbrev OneRun : ℕ → List ℕ → List A → Type 0
   OneRun wanted = Then (λ text run. Stands text run × (length run ≤ wanted)) (λ run. Made (λ (more : List A). run ++ more) (Filled (wanted - length run)))
 
   run_filled : (wanted : ℕ) (text : List ℕ) (values : List A) → OneRun wanted text values → Filled wanted text values
   run_filled wanted text values s =
       let run = s.first in let more = s.next.0 in let rest = s.next.1.0 in (
-        (run ∷ rest.0, (s.front, s.back, s.split, s.stands.0, rest.1), s.next.2 ∙ ap (λ (xs : List A). run ++ xs) rest.2),
+        (run ∷ rest.0, (s.prefix, s.back, s.split, s.stands.0, rest.1), s.next.2 ∙ ap (λ (xs : List A). run ++ xs) rest.2),
         omega (arith, s.stands.1, s.next.1.1, ap length s.next.2, length-append run more),
       )
 
@@ -239,7 +239,7 @@ module _ {A : Type 0} (Stands : List ℕ → List A → Type 0) (run_at : ℕ �
       let parts : length values ≡ length run + length (joined runs) = ap length is ∙ length-append run (joined runs) in
       record {
         first = run;
-        front = many.0;
+        prefix = many.0;
         back = many.1;
         split = many.2;
         stands = (many.3, omega arith);
@@ -256,5 +256,5 @@ module _ {A : Type 0} (Stands : List ℕ → List A → Type 0) (run_at : ℕ �
       (run_filled (suc wanted)) (λ text values s. filled_run wanted text values s.0.0 s.0.1 s.0.2 s.1)
       (then_reads (λ text run. Stands text run × (length run ≤ suc wanted)) (λ run. Made (λ (more : List A). run ++ more) (Filled (suc wanted - length run)))
       (run_at (suc wanted)) (λ run bytes. filled_by run_at runs (suc wanted - length run) bytes >>= λ more. Some (run ++ more.0, more.1)) (reads (suc wanted))
-      (λ front run stands. made_reads (λ (more : List A). run ++ more) (Filled (suc wanted - length run)) (filled_by run_at runs (suc wanted - length run))
-      (filled_reads runs (suc wanted - length run) (omega (arith, some front run stands.0)))))
+      (λ prefix run stands. made_reads (λ (more : List A). run ++ more) (Filled (suc wanted - length run)) (filled_by run_at runs (suc wanted - length run))
+      (filled_reads runs (suc wanted - length run) (omega (arith, some prefix run stands.0)))))

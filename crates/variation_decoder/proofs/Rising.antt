@@ -6,37 +6,37 @@ use Rattle.variation_rules.specs.PackedPoints.{count_from}
 use Rattle.variation_decoder.specs.Points.{rising}
 use Rattle.basics.specs.Optional.{◌>>=◌}
 
--- what was found before, in front of what is still found
-abbrev pub behind : {A : Type 0} → List A → Option (List A) → Option (List A)
-behind front read = read >>= λ xs. Some (front ++ xs)
+-- what was found before, before what is still found
+abbrev pub after : {A : Type 0} → List A → Option (List A) → Option (List A)
+after prefix read = read >>= λ xs. Some (prefix ++ xs)
 
-regroup : {A : Type 0} (front : List A) (x : A) (read : Option (List A)) → behind front (read >>= λ xs. Some (x ∷ xs)) ≡ behind (front ++ x ∷ []) read
-regroup front x (Some xs) = ap Some (sym (append_assoc front (x ∷ []) xs))
-regroup front x None = refl
+regroup : {A : Type 0} (prefix : List A) (x : A) (read : Option (List A)) → after prefix (read >>= λ xs. Some (x ∷ xs)) ≡ after (prefix ++ x ∷ []) read
+regroup prefix x (Some xs) = ap Some (sym (append_assoc prefix (x ∷ []) xs))
+regroup prefix x None = refl
 
 -- the difference at this index leads to the point
-pub rising_goes_on : (front : List ℕ) (before low end i point : ℕ) (differences : List ℕ) (total : Option (List ℕ)) → i < length differences → point ≡ before + get_or differences i 0 → low ≤ point → point < end
-    → behind front (rising before low end (drop i differences)) ≡ total
-    → behind (front ++ point ∷ []) (rising point (point + 1) end (drop (i + 1) differences)) ≡ total
+pub rising_goes_on : (prefix : List ℕ) (before low end i point : ℕ) (differences : List ℕ) (total : Option (List ℕ)) → i < length differences → point ≡ before + get_or differences i 0 → low ≤ point → point < end
+    → after prefix (rising before low end (drop i differences)) ≡ total
+    → after (prefix ++ point ∷ []) (rising point (point + 1) end (drop (i + 1) differences)) ≡ total
 unfolding rising
-rising_goes_on front before low end i point differences total lt sum least below so_far =
+rising_goes_on prefix before low end i point differences total lt sum least below so_far =
     let fine : (ltb point low || leb end point) ≡ false = or_from _ _ (le-ltb _ _ least) (lt-leb _ _ below) in
-    let one : behind front (rising before low end (drop i differences)) ≡ behind (front ++ point ∷ []) (rising point (point + 1) end (drop (i + 1) differences)) =
-    rw (at_drop_more (rising before low end) differences i 0 lt, ← sum, fine) (regroup front point (rising point (point + 1) end (drop (i + 1) differences))) in
+    let one : after prefix (rising before low end (drop i differences)) ≡ after (prefix ++ point ∷ []) (rising point (point + 1) end (drop (i + 1) differences)) =
+    rw (at_drop_more (rising before low end) differences i 0 lt, ← sum, fine) (regroup prefix point (rising point (point + 1) end (drop (i + 1) differences))) in
     sym one ∙ so_far
 
-pub rising_stops : (front : List ℕ) (before low end i point : ℕ) (differences : List ℕ) (total : Option (List ℕ)) → i < length differences → point ≡ before + get_or differences i 0 → (ltb point low || leb end point) ≡ true
-    → behind front (rising before low end (drop i differences)) ≡ total → total ≡ None
+pub rising_stops : (prefix : List ℕ) (before low end i point : ℕ) (differences : List ℕ) (total : Option (List ℕ)) → i < length differences → point ≡ before + get_or differences i 0 → (ltb point low || leb end point) ≡ true
+    → after prefix (rising before low end (drop i differences)) ≡ total → total ≡ None
 unfolding rising
-rising_stops front before low end i point differences total lt sum stop so_far =
-    let one : behind front (rising before low end (drop i differences)) ≡ None = rw (at_drop_more (rising before low end) differences i 0 lt, ← sum, stop) refl in
+rising_stops prefix before low end i point differences total lt sum stop so_far =
+    let one : after prefix (rising before low end (drop i differences)) ≡ None = rw (at_drop_more (rising before low end) differences i 0 lt, ← sum, stop) refl in
     sym so_far ∙ one
 
-pub rising_is_done : (front : List ℕ) (before low end i : ℕ) (differences : List ℕ) (total : Option (List ℕ)) → length differences ≤ i
-    → behind front (rising before low end (drop i differences)) ≡ total → total ≡ Some front
+pub rising_is_done : (prefix : List ℕ) (before low end i : ℕ) (differences : List ℕ) (total : Option (List ℕ)) → length differences ≤ i
+    → after prefix (rising before low end (drop i differences)) ≡ total → total ≡ Some prefix
 unfolding rising
-rising_is_done front before low end i differences total le so_far =
-    let one : behind front (rising before low end (drop i differences)) ≡ Some front = rw (at_drop_all (rising before low end) differences i le) (ap Some (append-nil front)) in
+rising_is_done prefix before low end i differences total le so_far =
+    let one : after prefix (rising before low end (drop i differences)) ≡ Some prefix = rw (at_drop_all (rising before low end) differences i le) (ap Some (append-nil prefix)) in
     sym so_far ∙ one
 
 -- one number more

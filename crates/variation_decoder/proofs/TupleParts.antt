@@ -13,7 +13,7 @@ use Rattle.variation_rules.specs.TupleVariations.{header_bytes, HasRegion, HasPo
 use Rattle.variation_decoder.specs.Deltas.{deltas_at}
 use Rattle.variation_decoder.specs.Tuples.{tuple_points_at, pairs, part_at, tuple_at, tuples_at}
 use Rattle.variation_decoder.proofs.Steps.{unless_some, when_some}
-use Rattle.variation_decoder.proofs.Readers.{IsBytes, IsBytes-front, whole_stands, whole_again, Takes, IsReader, Then, Is, Made, Many, then_reads, done_reads, made_reads, same_reads}
+use Rattle.variation_decoder.proofs.Readers.{IsBytes, IsBytes-prefix, whole_stands, whole_again, Takes, IsReader, Then, Is, Made, Many, then_reads, done_reads, made_reads, same_reads}
 use Rattle.variation_decoder.proofs.DeltaRuns.{deltas_read}
 use Rattle.variation_decoder.proofs.PointRuns.{points_read}
 use Rattle.variation_decoder.proofs.Headers.{HeaderText}
@@ -88,14 +88,14 @@ part_of total shared head text tuple s =
     let same : length xs ≡ length ys = s.next.stands.1 ∙ sym y_text.1 in
     subst (λ (t : TupleVariation). PartText total shared head text t) (sym s.next.next.2) (
       record {
-        point_bytes = s.front;
-        x_bytes = s.next.front;
+        point_bytes = s.prefix;
+        x_bytes = s.next.prefix;
         y_bytes = s.next.back;
         points = s.stands;
-        xs = subst (λ (zs : List ℤ). ReadsDeltas s.next.front zs) (sym (pairs_xs xs ys same)) s.next.stands.0;
+        xs = subst (λ (zs : List ℤ). ReadsDeltas s.next.prefix zs) (sym (pairs_xs xs ys same)) s.next.stands.0;
         ys = subst (λ (zs : List ℤ). ReadsDeltas s.next.back zs) (sym (pairs_ys xs ys same)) y_text.0;
         one_each = sym (length-map (pairs xs ys) x_of) ∙ ap length (pairs_xs xs ys same) ∙ s.next.stands.1;
-        spelled = s.split ∙ ap (λ (t : List ℕ). s.front ++ t) s.next.split;
+        spelled = s.split ∙ ap (λ (t : List ℕ). s.prefix ++ t) s.next.split;
       },
       refl,
     )
@@ -109,13 +109,13 @@ of_part total shared head text tuple s =
     ap (λ (r : List Triple). record tuple { region = r }) s.1 ∙ ap (λ (ds : List Pair). record tuple { region = head.region; deltas = ds }) (sym (pairs_again tuple.deltas)) in
     record {
       first = tuple.points;
-      front = part.point_bytes;
+      prefix = part.point_bytes;
       back = part.x_bytes ++ part.y_bytes;
       split = part.spelled;
       stands = part.points;
       next = record {
         first = map x_of tuple.deltas;
-        front = part.x_bytes;
+        prefix = part.x_bytes;
         back = part.y_bytes;
         split = refl;
         stands = (part.xs, xs_each);
@@ -129,11 +129,11 @@ part_reads total shared head =
     same_reads (PartFields total shared head) (PartText total shared head) (part_at total shared head) (part_of total shared head) (of_part total shared head)
     (then_reads (HasPoints ReadsPoints total shared head.private) (λ points. Then (DeltasText (length points)) (λ xs. Made (made_tuple head.region points xs) (DeltasText (length points)))) (tuple_points_at total shared head.private)
     (λ points bytes. deltas_at (length points) bytes >>= λ xs. deltas_at (length points) xs.1 >>= λ ys. Some (made_tuple head.region points xs.0 ys.0, ys.1)) (tuple_points_read total shared head.private)
-    (λ front points stands. then_reads (DeltasText (length points)) (λ xs. Made (made_tuple head.region points xs) (DeltasText (length points))) (deltas_at (length points))
+    (λ prefix points stands. then_reads (DeltasText (length points)) (λ xs. Made (made_tuple head.region points xs) (DeltasText (length points))) (deltas_at (length points))
     (λ xs bytes. deltas_at (length points) bytes >>= λ ys. Some (made_tuple head.region points xs ys.0, ys.1)) (deltas_read (length points))
-    (λ front xs stands. made_reads (made_tuple head.region points xs) (DeltasText (length points)) (deltas_at (length points)) (deltas_read (length points)))))
+    (λ prefix xs stands. made_reads (made_tuple head.region points xs) (DeltasText (length points)) (deltas_at (length points)) (deltas_read (length points)))))
 
--- ---- a tuple behind its header
+-- ---- a tuple after its header
 
 -- a packed part of the size that the header says
 abbrev pub TupleText : ℕ → Option (List ℕ) → Head → List ℕ → TupleVariation → Type 0
@@ -148,7 +148,7 @@ tuple_taken total shared head bytes read fits e =
     let step = bind_some (part_at total shared head part) (λ tuple. cond (eqb (length tuple.1) 0) (Some (tuple.0, rest)) None) read room.1 in
     let ends = when_some (eqb (length step.0.1) 0) (Some (step.0.0, rest)) read step.2 in
     let same : (step.0.0, rest) ≡ read = same_Some (step.0.0, rest) read ends.1 in
-    let fits_part = IsBytes-front part rest (subst IsBytes (sym all) fits) in
+    let fits_part = IsBytes-prefix part rest (subst IsBytes (sym all) fits) in
     let stands = whole_stands (PartText total shared head) (part_at total shared head) (part_reads total shared head) part step.0 fits_part step.1 (eqb-true (length step.0.1) 0 ends.0) in
     let size : length part ≡ head.size = omega (arith, length-take head.size bytes, ltb-false (length bytes) head.size room.0) in
     subst (λ (r : TupleVariation × List ℕ). Takes (TupleText total shared head) bytes r) same
@@ -173,7 +173,7 @@ parts_read total shared [] = done_reads []
 parts_read total shared (head ∷ heads) =
     then_reads (TupleText total shared head) (λ tuple. Made (λ (more : List TupleVariation). tuple ∷ more) (PartsText total shared heads)) (tuple_at total shared head)
     (λ tuple bytes. tuples_at total shared heads bytes >>= λ more. Some (tuple ∷ more.0, more.1)) (record { takes = tuple_taken total shared head; again = tuple_again total shared head })
-    (λ front tuple stands. made_reads (λ (more : List TupleVariation). tuple ∷ more) (PartsText total shared heads) (tuples_at total shared heads) (parts_read total shared heads))
+    (λ prefix tuple stands. made_reads (λ (more : List TupleVariation). tuple ∷ more) (PartsText total shared heads) (tuples_at total shared heads) (parts_read total shared heads))
 
 -- ---- headers and parts are tuples of the grammar
 
@@ -186,11 +186,11 @@ are_tuples axes total peaks shared (head ∷ heads) headers parts tuples h p =
     let more = are_tuples axes total peaks shared heads h.1 p.back p.next.0 h.4 p.next.1 in
     let tuple = p.first in let header = h.3.0 in let size = p.stands.1 in
     let region = subst (λ (r : List Triple). HasRegion axes peaks header r) (sym p.stands.0.1) h.3.1 in
-    let part = subst (λ (b : Bool). IsPart ReadsPoints ReadsDeltas total shared b p.front tuple) (sym h.3.3) p.stands.0.0 in
-    let spelled : headers ≡ header_bytes (length p.front) header ++ h.1 =
+    let part = subst (λ (b : Bool). IsPart ReadsPoints ReadsDeltas total shared b p.prefix tuple) (sym h.3.3) p.stands.0.0 in
+    let spelled : headers ≡ header_bytes (length p.prefix) header ++ h.1 =
     h.2 ∙ ap (λ (t : List ℕ). t ++ h.1) (h.3.4 ∙ ap (λ (n : ℕ). header_bytes n header) (sym size)) in
     subst (λ (ts : List TupleVariation). AreTuples ReadsPoints ReadsDeltas axes total peaks shared headers parts ts × (length ts ≡ suc (length heads))) (sym p.next.2)
-    ((header, p.front, h.1, p.back, region, part, omega (arith, h.3.2, size), spelled, p.split, more.0), ap suc more.1)
+    ((header, p.prefix, h.1, p.back, region, part, omega (arith, h.3.2, size), spelled, p.split, more.0), ap suc more.1)
 
 -- what each tuple's header says
 abbrev pub HeadsOf : ℕ → ℕ → List (List ℤ) → Option (List ℕ) → List ℕ → List ℕ → List TupleVariation → Type 0
@@ -206,6 +206,6 @@ heads_of axes total peaks shared headers parts (tuple ∷ tuples) s =
     let head : Head = record { size = length part; region = tuple.region; private = header.private } in (
       head ∷ more.0,
       (header_bytes (length part) header, s.2, s.7, (header, s.4, s.6, refl, refl), more.1),
-      record { first = tuple; front = part; back = s.3; split = s.8; stands = ((s.5, refl), refl); next = (tuples, more.2, refl) },
+      record { first = tuple; prefix = part; back = s.3; split = s.8; stands = ((s.5, refl), refl); next = (tuples, more.2, refl) },
       ap suc more.3,
     )

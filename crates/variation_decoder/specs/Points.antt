@@ -45,7 +45,7 @@ listed_points_at total bytes = do
   if nat_eq count.0 0 then None
       else (differences_at count.0 count.1 >>= λ differences. rising 0 0 total differences.0 >>= λ points. Some (points, differences.1))
 
--- all points behind a single 0, or those listed
+-- all points after a single 0, or those listed
 unfoldable pub points_at : ℕ → List ℕ → Option (List ℕ × List ℕ)
 points_at total bytes = do
   first ← byte_at bytes

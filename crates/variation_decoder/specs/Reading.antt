@@ -1,5 +1,5 @@
--- Reading from left to right, as the plain reader does it: a reader gives the value at the front of the bytes
--- and the bytes behind it, or None where no such value stands there. What bytes mean is not said here but in
+-- Reading from left to right, as the plain reader does it: a reader gives the value at the start of the bytes
+-- and the bytes after it, or None where no such value stands there. What bytes mean is not said here but in
 -- PackedDeltas, PackedPoints and TupleVariations; the proofs show that reading finds just that.
 use Rattle.std.specs.Prelude.{◌≡◌, ℕ, zero, suc, ℤ, ◌-◌, List, [], ◌∷◌, ◌++◌, length, Option, Some, None, Result, Ok, Err}
 use Rattle.std.specs.Int.{w8, w16, from_be_bytes, cast_signed}
@@ -17,7 +17,7 @@ abbrev pub Gives : {X Y : Type 0} → (X → Y) → Result X Refusal → Option 
 Gives view (Ok x) reading = reading ≡ Some (view x)
 Gives view (Err e) reading = Fails e reading
 
--- so many values, one behind another
+-- so many values, one after another
 unfoldable pub many : {A : Type 0} → (List ℕ → Option (A × List ℕ)) → ℕ → List ℕ → Option (List A × List ℕ)
 many at zero bytes = Some ([], bytes)
 many at (suc n) bytes = do

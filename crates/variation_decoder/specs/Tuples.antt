@@ -5,9 +5,9 @@ use Rattle.fixpoint.specs.declared.plane.Pair.{Pair}
 use Rattle.variation_decoder.specs.Reading.{many, word_at, signed_word_at}
 use Rattle.variation_decoder.specs.Deltas.{deltas_at}
 use Rattle.variation_decoder.specs.Points.{points_at}
-use Rattle.variation_rules.specs.TupleVariations.{plain_triple, triples}
+use Rattle.variation_rules.specs.TupleVariations.{implied_triple, triples}
 use Rattle.variation_decoder.specs.declared.header.Head.{Head}
-use Rattle.variation_decoder.specs.declared.reader.Front.{Front}
+use Rattle.variation_decoder.specs.declared.reader.DataHeader.{DataHeader}
 use Rattle.variation_rules.specs.declared.region.Triple.{Triple}
 use Rattle.variation_rules.specs.declared.tuple.TupleVariation.{TupleVariation}
 use Rattle.basics.specs.Optional.{◌>>=◌}
@@ -38,7 +38,7 @@ peak_at axes peaks index bytes =
 
 -- the region from its peak, with the start and the end where it is intermediate
 unfoldable pub region_at : ℕ → Bool → List ℤ → List ℕ → Option (List Triple × List ℕ)
-region_at axes false peak bytes = Some (map plain_triple peak, bytes)
+region_at axes false peak bytes = Some (map implied_triple peak, bytes)
 region_at axes true peak bytes = do
   starts ← coordinates_at axes bytes
   ends ← coordinates_at axes starts.1
@@ -91,25 +91,25 @@ shared_points_at total false bytes = Some (None, bytes)
 shared_points_at total true bytes = points_at total bytes >>= λ points. Some (Some points.0, points.1)
 
 -- The count, the offset and the headers. The bits 0x7000 of the count are reserved.
-unfoldable pub front_at : ℕ → List (List ℤ) → List ℕ → Option (Front × List ℕ)
-front_at axes peaks bytes = do
+unfoldable pub data_header_at : ℕ → List (List ℤ) → List ℕ → Option (DataHeader × List ℕ)
+data_header_at axes peaks bytes = do
   count ← word_at bytes
   offset ← word_at count.1
   if has_bits 0x7000 count.0 then None else (do
     heads ← many (header_at axes peaks) (bit_and count.0 0x0FFF) offset.1
     Some (record { count = count.0; offset = offset.0; heads = heads.0 }, heads.1))
 
--- the same, where the offset leads behind the headers
-unfoldable pub headers_at : ℕ → List (List ℤ) → List ℕ → Option (Front × List ℕ)
+-- the same, where the offset leads after the headers
+unfoldable pub headers_at : ℕ → List (List ℤ) → List ℕ → Option (DataHeader × List ℕ)
 headers_at axes peaks bytes =
-    front_at axes peaks bytes >>= λ front. if nat_eq (front.0.offset + length front.1) (length bytes) then Some front else None
+    data_header_at axes peaks bytes >>= λ prefix. if nat_eq (prefix.0.offset + length prefix.1) (length bytes) then Some prefix else None
 
 -- the data of one glyph
 unfoldable pub glyph_data_at : ℕ → ℕ → List (List ℤ) → List ℕ → Option (List TupleVariation × List ℕ)
 glyph_data_at axes total peaks bytes = do
-  front ← headers_at axes peaks bytes
-  shared ← shared_points_at total (has_bits 0x8000 front.0.count) front.1
-  tuples_at total shared.0 front.0.heads shared.1
+  prefix ← headers_at axes peaks bytes
+  shared ← shared_points_at total (has_bits 0x8000 prefix.0.count) prefix.1
+  tuples_at total shared.0 prefix.0.heads shared.1
 
 -- all of the bytes; no bytes mean no tuple
 unfoldable pub tuples_of : ℕ → ℕ → List (List ℤ) → List ℕ → Option (List TupleVariation)

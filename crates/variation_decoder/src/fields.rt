@@ -6,7 +6,7 @@ use basics::Seq;
 use fixpoint::Fix;
 use std::alloc::Global;
 
-/// The `uint8` at the front, and the bytes behind it.
+/// The `uint8` at the start, and the bytes after it.
 pub fn byte_at(bytes: &[u8]) -> Result<(u8, &[u8]), Refusal>
     ensures { Gives (λ x. (x.0, x.1.now)) result (byte_at bytes.now) }
 {
@@ -16,7 +16,7 @@ pub fn byte_at(bytes: &[u8]) -> Result<(u8, &[u8]), Refusal>
     }
 }
 
-/// The `uint16` at the front, and the bytes behind it.
+/// The `uint16` at the start, and the bytes after it.
 pub fn word_at(bytes: &[u8]) -> Result<(u16, &[u8]), Refusal>
     ensures { Gives (λ x. (x.0, x.1.now)) result (word_at bytes.now) }
 {
@@ -26,7 +26,7 @@ pub fn word_at(bytes: &[u8]) -> Result<(u16, &[u8]), Refusal>
     }
 }
 
-/// The `int8` at the front, and the bytes behind it.
+/// The `int8` at the start, and the bytes after it.
 #[tactic(auto, unfolding(crate::specs::Reading::signed_byte_at))]
 pub fn signed_byte_at(bytes: &[u8]) -> Result<(i32, &[u8]), Refusal>
     ensures { Gives (λ x. (x.0, x.1.now)) result (signed_byte_at bytes.now) }
@@ -35,7 +35,7 @@ pub fn signed_byte_at(bytes: &[u8]) -> Result<(i32, &[u8]), Refusal>
     Ok((i32::from(byte.cast_signed()), rest))
 }
 
-/// The `int16` at the front, and the bytes behind it.
+/// The `int16` at the start, and the bytes after it.
 #[tactic(auto, unfolding(crate::specs::Reading::signed_word_at))]
 pub fn signed_word_at(bytes: &[u8]) -> Result<(i32, &[u8]), Refusal>
     ensures { Gives (λ x. (x.0, x.1.now)) result (signed_word_at bytes.now) }
@@ -44,7 +44,7 @@ pub fn signed_word_at(bytes: &[u8]) -> Result<(i32, &[u8]), Refusal>
     Ok((i32::from(word.cast_signed()), rest))
 }
 
-/// One F2DOT14 coordinate for each of so many axes, and the bytes behind them.
+/// One F2DOT14 coordinate for each of so many axes, and the bytes after them.
 pub fn coordinates_at(
     alloc: Global,
     axes: u16,

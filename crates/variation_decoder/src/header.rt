@@ -2,7 +2,7 @@ ghost use Rattle.std.specs.Prelude.{◌≡◌, ◌<◌, List, map};
 ghost use Rattle.std.specs.List.{list_all};
 ghost use Rattle.variation_decoder.specs.Reading.{Gives};
 ghost use Rattle.variation_decoder.specs.Tuples.{is_coordinate, is_tuple, shared_peak, peak_at, region_at, header_at};
-ghost use Rattle.variation_rules.specs.TupleVariations.{plain_triple, triples};
+ghost use Rattle.variation_rules.specs.TupleVariations.{implied_triple, triples};
 
 use crate::fields::{coordinates_at, word_at};
 use crate::refusal::Refusal;
@@ -80,7 +80,7 @@ fn shared_peak(
     }
 }
 
-/// The peak of a header, and the bytes behind it.
+/// The peak of a header, and the bytes after it.
 #[tactic(auto, unfolding(crate::specs::Tuples::peak_at))]
 fn peak_at<'a>(
     alloc: Global,
@@ -103,8 +103,8 @@ fn peak_at<'a>(
 }
 
 /// An axis without an intermediate region: from the default to the peak.
-fn plain_triple(peak: Fix<14>) -> Triple
-    ensures { result ≡ plain_triple peak }
+fn implied_triple(peak: Fix<14>) -> Triple
+    ensures { result ≡ implied_triple peak }
 {
     let default = Fix::from_raw(0);
     Triple {
@@ -115,12 +115,12 @@ fn plain_triple(peak: Fix<14>) -> Triple
 }
 
 /// The region that reaches on each axis from the default to the peak.
-fn plain_region(alloc: Global, peak: &[Fix<14>]) -> Result<Seq<Triple>, Refusal>
-    ensures { Gives (λ x. x) result (Some (map plain_triple peak.now)) }
+fn implied_region(alloc: Global, peak: &[Fix<14>]) -> Result<Seq<Triple>, Refusal>
+    ensures { Gives (λ x. x) result (Some (map implied_triple peak.now)) }
 {
     let mut region = Seq::new(alloc);
     for coordinate in peak {
-        region.push(plain_triple(*coordinate))?;
+        region.push(implied_triple(*coordinate))?;
     }
     Ok(region)
 }
@@ -157,7 +157,7 @@ fn intermediate_region(
     Ok(region)
 }
 
-/// The region of a header, and the bytes behind it.
+/// The region of a header, and the bytes after it.
 #[tactic(auto, unfolding(crate::specs::Tuples::region_at))]
 fn region_at<'a>(
     alloc: Global,
@@ -169,7 +169,7 @@ fn region_at<'a>(
     ensures { Gives (λ x. (x.0, x.1.now)) result (region_at axes intermediate peak.now bytes.now) }
 {
     if !intermediate {
-        let region = plain_region(alloc, peak)?;
+        let region = implied_region(alloc, peak)?;
         return Ok((region, bytes));
     }
     let (starts, rest) = coordinates_at(alloc, axes, bytes)?;
@@ -178,7 +178,7 @@ fn region_at<'a>(
     Ok((region, rest))
 }
 
-/// A tuple's header, and the bytes behind it (OpenType, "Tuple variation store").
+/// A tuple's header, and the bytes after it (OpenType, "Tuple variation store").
 #[tactic(auto, unfolding(crate::specs::Tuples::header_at))]
 pub fn header_at<'a>(
     alloc: Global,

@@ -12,4 +12,4 @@ mod refusal;
 #[cfg(test)]
 mod tests;
 
-pub use reader::{one_reading, read_tuples};
+pub use reader::{read_tuples, reading_law};

@@ -25,7 +25,7 @@ fn delta_control(byte: u8) -> Result<(DeltaClass, u8), Refusal>
     }
 }
 
-/// One value of a run of deltas, and the bytes behind it.
+/// One value of a run of deltas, and the bytes after it.
 fn delta_at(class: DeltaClass, bytes: &[u8]) -> Result<(i32, &[u8]), Refusal>
     ensures { Gives (λ x. (x.0, x.1.now)) result (delta_at class bytes.now) }
 {
@@ -36,7 +36,7 @@ fn delta_at(class: DeltaClass, bytes: &[u8]) -> Result<(i32, &[u8]), Refusal>
     }
 }
 
-/// So many values of one class, and the bytes behind them.
+/// So many values of one class, and the bytes after them.
 fn run_deltas_at(
     alloc: Global,
     class: DeltaClass,
@@ -55,7 +55,7 @@ fn run_deltas_at(
     Ok((values, rest))
 }
 
-/// A run of no more deltas than are wanted, and the bytes behind it.
+/// A run of no more deltas than are wanted, and the bytes after it.
 #[tactic(auto, unfolding(crate::specs::Deltas::delta_run_at))]
 fn delta_run_at(alloc: Global, wanted: usize, bytes: &[u8]) -> Result<(Seq<i32>, &[u8]), Refusal>
     ensures { Gives (λ x. (x.0, x.1.now)) result (delta_run_at wanted bytes.now) }
@@ -69,7 +69,7 @@ fn delta_run_at(alloc: Global, wanted: usize, bytes: &[u8]) -> Result<(Seq<i32>,
     Ok((values, rest))
 }
 
-/// Packed deltas, so many values, and the bytes behind them (OpenType, "Packed deltas").
+/// Packed deltas, so many values, and the bytes after them (OpenType, "Packed deltas").
 pub fn deltas_at(alloc: Global, wanted: usize, bytes: &[u8]) -> Result<(Seq<i32>, &[u8]), Refusal>
     ensures { Gives (λ x. (x.0, x.1.now)) result (deltas_at wanted bytes.now) }
 {
@@ -94,7 +94,7 @@ fn point_control(byte: u8) -> (PointClass, u8)
     }
 }
 
-/// One difference of a run of points, and the bytes behind it.
+/// One difference of a run of points, and the bytes after it.
 fn difference_at(class: PointClass, bytes: &[u8]) -> Result<(u16, &[u8]), Refusal>
     ensures { Gives (λ x. (x.0, x.1.now)) result (difference_at class bytes.now) }
 {
@@ -107,7 +107,7 @@ fn difference_at(class: PointClass, bytes: &[u8]) -> Result<(u16, &[u8]), Refusa
     }
 }
 
-/// So many differences of one class, and the bytes behind them.
+/// So many differences of one class, and the bytes after them.
 fn run_differences_at(
     alloc: Global,
     class: PointClass,
@@ -126,7 +126,7 @@ fn run_differences_at(
     Ok((differences, rest))
 }
 
-/// A run of no more differences than are wanted, and the bytes behind it.
+/// A run of no more differences than are wanted, and the bytes after it.
 #[tactic(auto, unfolding(crate::specs::Points::difference_run_at))]
 fn difference_run_at(
     alloc: Global,
@@ -144,7 +144,7 @@ fn difference_run_at(
     Ok((differences, rest))
 }
 
-/// Runs of so many differences, and the bytes behind them.
+/// Runs of so many differences, and the bytes after them.
 fn differences_at(alloc: Global, wanted: usize, bytes: &[u8]) -> Result<(Seq<u16>, &[u8]), Refusal>
     ensures { Gives (λ x. (x.0, x.1.now)) result (differences_at wanted bytes.now) }
 {
@@ -158,7 +158,7 @@ fn differences_at(alloc: Global, wanted: usize, bytes: &[u8]) -> Result<(Seq<u16
     Ok((Seq::from_vec(differences), rest))
 }
 
-/// The number of points listed, in one byte or in two, and the bytes behind it.
+/// The number of points listed, in one byte or in two, and the bytes after it.
 #[tactic(auto, unfolding(crate::specs::Points::count_at))]
 fn count_at(bytes: &[u8]) -> Result<(u16, &[u8]), Refusal>
     ensures { Gives (λ x. (x.0, x.1.now)) result (count_at bytes.now) }
@@ -191,7 +191,7 @@ fn points_of(alloc: Global, total: u16, differences: &[u16]) -> Result<Seq<u16>,
     Ok(points)
 }
 
-/// Listed points, and the bytes behind them.
+/// Listed points, and the bytes after them.
 #[tactic(auto, unfolding(crate::specs::Points::listed_points_at))]
 fn listed_points_at(alloc: Global, total: u16, bytes: &[u8]) -> Result<(Seq<u16>, &[u8]), Refusal>
     ensures { Gives (λ x. (x.0, x.1.now)) result (listed_points_at total bytes.now) }
@@ -216,7 +216,7 @@ fn all_points(alloc: Global, total: u16) -> Result<Seq<u16>, Refusal>
     Ok(points)
 }
 
-/// Packed points of a glyph that has so many, and the bytes behind them (OpenType, "Packed point
+/// Packed points of a glyph that has so many, and the bytes after them (OpenType, "Packed point
 /// numbers").
 #[tactic(auto, unfolding(crate::specs::Points::points_at))]
 pub fn points_at(alloc: Global, total: u16, bytes: &[u8]) -> Result<(Seq<u16>, &[u8]), Refusal>

@@ -1,6 +1,6 @@
 ghost use Rattle.std.specs.Prelude.{◌≡◌, ℕ, ℤ, List, Option, Some, None, IfOk, MatchOption};
 ghost use Rattle.variation_decoder.specs.Reading.{Gives, many};
-ghost use Rattle.variation_decoder.specs.Tuples.{tuple_points_at, pairs, part_at, tuple_at, tuples_at, shared_points_at, header_at, front_at, headers_at, glyph_data_at, tuples_of};
+ghost use Rattle.variation_decoder.specs.Tuples.{tuple_points_at, pairs, part_at, tuple_at, tuples_at, shared_points_at, header_at, data_header_at, headers_at, glyph_data_at, tuples_of};
 ghost use Rattle.variation_rules.specs.TupleVariations.{MeansTuples};
 ghost use Rattle.variation_rules.specs.declared.tuple.TupleVariation.{TupleVariation};
 
@@ -22,18 +22,18 @@ const RESERVED: u16 = 0x7000;
 /// The bits of the count word that hold the number of tuples.
 const TUPLE_COUNT: u16 = 0x0FFF;
 
-/// What stands in front of the packed data of a glyph.
+/// What stands before the packed data of a glyph.
 #[derive(Drop)]
-pub struct Front {
+pub struct DataHeader {
     /// The word with the number of tuples.
     pub count: u16,
-    /// The place at which the packed data begin, as the data say it.
+    /// The offset at which the packed data begin, as the data say it.
     pub offset: u16,
     /// The headers, one for each tuple.
     pub heads: Seq<Head>,
 }
 
-/// The points of a tuple, its own or the shared ones, and the bytes behind them.
+/// The points of a tuple, its own or the shared ones, and the bytes after them.
 #[tactic(auto, unfolding(crate::specs::Tuples::tuple_points_at))]
 fn tuple_points_at<'a>(
     alloc: Global,
@@ -74,7 +74,7 @@ fn pairs(alloc: Global, xs: &[i32], ys: &[i32]) -> Result<Seq<Pair>, Refusal>
     Ok(pairs)
 }
 
-/// The tuple of this header from its packed part, and the bytes behind it.
+/// The tuple of this header from its packed part, and the bytes after it.
 #[tactic(auto, unfolding(crate::specs::Tuples::part_at))]
 fn part_at<'a>(
     alloc: Global,
@@ -100,7 +100,7 @@ fn part_at<'a>(
     ))
 }
 
-/// The tuple of this header, and the bytes behind its packed part, which has the size that the header
+/// The tuple of this header, and the bytes after its packed part, which has the size that the header
 /// says.
 #[tactic(auto, unfolding(crate::specs::Tuples::tuple_at))]
 fn tuple_at<'a>(
@@ -124,7 +124,7 @@ fn tuple_at<'a>(
     Ok((tuple, rest))
 }
 
-/// One tuple for each header, and the bytes behind their packed parts.
+/// One tuple for each header, and the bytes after their packed parts.
 fn tuples_at<'a>(
     alloc: Global,
     total: u16,
@@ -144,7 +144,7 @@ fn tuples_at<'a>(
     Ok((tuples, rest))
 }
 
-/// The shared points where there are some, and the bytes behind them.
+/// The shared points where there are some, and the bytes after them.
 #[tactic(auto, unfolding(crate::specs::Tuples::shared_points_at))]
 fn shared_points_at(
     alloc: Global,
@@ -161,7 +161,7 @@ fn shared_points_at(
     Ok((Some(points), rest))
 }
 
-/// So many headers, and the bytes behind them.
+/// So many headers, and the bytes after them.
 fn heads_at<'a>(
     alloc: Global,
     axes: u16,
@@ -181,15 +181,15 @@ fn heads_at<'a>(
     Ok((heads, rest))
 }
 
-/// The count, the offset and the headers, and the bytes behind them.
-#[tactic(auto, unfolding(crate::specs::Tuples::front_at))]
-fn front_at<'a>(
+/// The count, the offset and the headers, and the bytes after them.
+#[tactic(auto, unfolding(crate::specs::Tuples::data_header_at))]
+fn data_header_at<'a>(
     alloc: Global,
     axes: u16,
     peaks: &Seq<Seq<Fix<14>>>,
     bytes: &'a [u8],
-) -> Result<(Front, &'a [u8]), Refusal>
-    ensures { Gives (λ x. (x.0, x.1.now)) result (front_at axes peaks.now bytes.now) }
+) -> Result<(DataHeader, &'a [u8]), Refusal>
+    ensures { Gives (λ x. (x.0, x.1.now)) result (data_header_at axes peaks.now bytes.now) }
 {
     let (count, rest) = word_at(bytes)?;
     let (offset, rest) = word_at(rest)?;
@@ -198,7 +198,7 @@ fn front_at<'a>(
     }
     let (heads, rest) = heads_at(alloc, axes, peaks, count & TUPLE_COUNT, rest)?;
     Ok((
-        Front {
+        DataHeader {
             count,
             offset,
             heads,
@@ -207,24 +207,24 @@ fn front_at<'a>(
     ))
 }
 
-/// The same, where the offset leads behind the headers.
+/// The same, where the offset leads after the headers.
 #[tactic(auto, unfolding(crate::specs::Tuples::headers_at))]
 fn headers_at<'a>(
     alloc: Global,
     axes: u16,
     peaks: &Seq<Seq<Fix<14>>>,
     bytes: &'a [u8],
-) -> Result<(Front, &'a [u8]), Refusal>
+) -> Result<(DataHeader, &'a [u8]), Refusal>
     ensures { Gives (λ x. (x.0, x.1.now)) result (headers_at axes peaks.now bytes.now) }
 {
-    let (front, rest) = front_at(alloc, axes, peaks, bytes)?;
-    if usize::from(front.offset) + rest.len() != bytes.len() {
+    let (prefix, rest) = data_header_at(alloc, axes, peaks, bytes)?;
+    if usize::from(prefix.offset) + rest.len() != bytes.len() {
         return Err(Refusal::NoReading);
     }
-    Ok((front, rest))
+    Ok((prefix, rest))
 }
 
-/// The tuples of a glyph's data, and the bytes behind them.
+/// The tuples of a glyph's data, and the bytes after them.
 #[tactic(auto, unfolding(crate::specs::Tuples::glyph_data_at))]
 fn glyph_data_at<'a>(
     alloc: Global,
@@ -235,10 +235,10 @@ fn glyph_data_at<'a>(
 ) -> Result<(Seq<TupleVariation>, &'a [u8]), Refusal>
     ensures { Gives (λ x. (x.0, x.1.now)) result (glyph_data_at axes total peaks.now bytes.now) }
 {
-    let (front, rest) = headers_at(alloc, axes, peaks, bytes)?;
-    let has_shared = front.count & SHARED_POINTS != 0;
+    let (prefix, rest) = headers_at(alloc, axes, peaks, bytes)?;
+    let has_shared = prefix.count & SHARED_POINTS != 0;
     let (shared, rest) = shared_points_at(alloc, total, has_shared, rest)?;
-    let (tuples, rest) = tuples_at(alloc, total, &shared, front.heads.as_slice(), rest)?;
+    let (tuples, rest) = tuples_at(alloc, total, &shared, prefix.heads.as_slice(), rest)?;
     Ok((tuples, rest))
 }
 
@@ -267,7 +267,7 @@ fn tuples_of(
 ///
 /// The glyph has `total` points, the four phantom points among them, in a font of so many `axes` with
 /// these shared `peaks`. The answer is `None` where the bytes have no meaning: where they end too
-/// early or too late, a reserved bit is set, the offset doesn't lead behind the headers, a run holds
+/// early or too late, a reserved bit is set, the offset doesn't lead after the headers, a run holds
 /// more values than are wanted, points don't rise or pass the total, a shared peak or the shared
 /// points are named and aren't there. The reader is plain and slow, for tests to compare with.
 pub fn read_tuples(
@@ -290,6 +290,6 @@ pub fn read_tuples(
 }
 
 /// Bytes have at most one meaning, though a list has many spellings.
-pub fn one_reading()
+pub fn reading_law()
     ensures { (axes total : ℕ) (peaks : List (List ℤ)) (bytes : List ℕ) (xs ys : List TupleVariation) → MeansTuples axes total peaks bytes xs → MeansTuples axes total peaks bytes ys → xs ≡ ys }
 {}

@@ -2,6 +2,7 @@ use crate::read_tuples;
 use basics::{NoMemory, Seq};
 use fixpoint::Fix;
 use std::alloc::Global;
+use std::process::Abort;
 use std::test::*;
 use variation_rules::TupleVariation;
 
@@ -211,30 +212,19 @@ fn shared_peaks(alloc: Global) -> Result<Seq<Seq<Fix<14>>>, NoMemory> {
     Ok(peaks)
 }
 
-fn is_as_expected(tuple: &TupleVariation, expected: &Expected) -> bool {
-    let axes = tuple.region.as_slice().iter().zip(expected.region);
-    let points = tuple.points.as_slice().iter().zip(expected.points);
-    let deltas = tuple.deltas.as_slice().iter().zip(expected.points);
-    tuple.region.len() == expected.region.len()
-        && tuple.points.len() == expected.points.len()
-        && tuple.deltas.len() == expected.points.len()
-        && axes
-            .map(|(read, axis)| (read.start.raw(), read.peak.raw(), read.end.raw()) == *axis)
-            .all(|same| same)
-        && points
-            .map(|(read, point)| *read == point.0)
-            .all(|same| same)
-        && deltas
-            .map(|(read, point)| (read.x, read.y) == (point.1, point.2))
-            .all(|same| same)
-}
-
-fn are_as_expected(tuples: &[TupleVariation], expected: &[Expected]) -> bool {
-    tuples.len() == expected.len()
-        && tuples
-            .iter()
-            .zip(expected)
-            .all(|(tuple, one)| is_as_expected(tuple, one))
+fn check(rt: &impl Abort, tuple: &TupleVariation, expected: &Expected) {
+    assert_eq!(rt; tuple.region.len(), expected.region.len());
+    for (read, axis) in tuple.region.as_slice().iter().zip(expected.region) {
+        assert_eq!(rt; (read.start.raw(), read.peak.raw(), read.end.raw()), *axis);
+    }
+    assert_eq!(rt; tuple.points.len(), expected.points.len());
+    for (read, point) in tuple.points.as_slice().iter().zip(expected.points) {
+        assert_eq!(rt; *read, point.0);
+    }
+    assert_eq!(rt; tuple.deltas.len(), expected.points.len());
+    for (read, point) in tuple.deltas.as_slice().iter().zip(expected.points) {
+        assert_eq!(rt; (read.x, read.y), (point.1, point.2));
+    }
 }
 
 #[test]
@@ -243,12 +233,18 @@ fn reads_by_hand(rt: HostRuntime) -> Result<(), Fail> {
     for case in &CASES {
         let found = read_tuples(rt.alloc(), case.axes, case.total, &peaks, case.bytes);
         let found = found.ok().ok_or("memory")?;
-        let fine = match (&found, case.tuples) {
-            (None, None) => true,
-            (Some(tuples), Some(expected)) => are_as_expected(tuples.as_slice(), expected),
-            (Some(_), None) | (None, Some(_)) => false,
-        };
-        assert!(rt; fine, "{}", case.name);
+        let count = found.as_ref().map(|tuples| tuples.len());
+        assert_eq!(rt;
+            count,
+            case.tuples.map(|expected| expected.len()),
+            "{}",
+            case.name
+        );
+        if let (Some(tuples), Some(expected)) = (&found, case.tuples) {
+            for (tuple, expected) in tuples.as_slice().iter().zip(expected) {
+                check(&rt, tuple, expected);
+            }
+        }
     }
     Ok(())
 }
@@ -258,8 +254,8 @@ fn refuses_faults(rt: HostRuntime) {
     let peaks = Seq::new(rt.alloc());
     for (at, byte, name) in FAULTS {
         let mut bytes = ALL_POINTS;
-        if let Some(place) = bytes.get_mut(at) {
-            *place = byte;
+        if let Some(old) = bytes.get_mut(at) {
+            *old = byte;
         }
         let found = read_tuples(rt.alloc(), 1, 7, &peaks, &bytes);
         assert!(rt; matches!(found, Ok(None)), "{name}");
@@ -271,5 +267,5 @@ fn refuses_faults(rt: HostRuntime) {
     let mut longer = [0; 18];
     longer[..17].copy_from_slice(&ALL_POINTS);
     let found = read_tuples(rt.alloc(), 1, 7, &peaks, &longer);
-    assert!(rt; matches!(found, Ok(None)), "a byte behind the data");
+    assert!(rt; matches!(found, Ok(None)), "a byte after the data");
 }

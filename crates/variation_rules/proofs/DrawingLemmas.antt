@@ -1,5 +1,5 @@
 -- What the drawing comes to where a tuple names every point, and where there is one tuple.
-use Rattle.std.proofs.Common.{◌≡◌, ℕ, ℤ, zero, suc, pos, ◌+◌, ◌%◌, ◌<◌, ◌≤◌, min, ◌+ℤ◌, ◌*ℤ◌, List, [], ◌∷◌, length, take, drop, get_or, Option, Some, None, sum, refl, sym, ◌∙◌, ap, arith}
+use Rattle.std.proofs.Common.{◌≡◌, ℕ, ℤ, zero, suc, ◌+◌, ◌%◌, ◌<◌, ◌≤◌, min, ◌+ℤ◌, ◌*ℤ◌, List, [], ◌∷◌, length, take, drop, get_or, Option, Some, None, sum, refl, sym, ◌∙◌, ap, arith}
 use Rattle.std.proofs.lemmas.Bool.{eq-eqb, ne_eqb}
 use Rattle.std.proofs.lemmas.List.{get_or-take, get_or-drop, length-take, length-drop, nil_from_length, drop_more}
 use Rattle.std.proofs.lemmas.List.Sums.{sum_by-cons}
@@ -9,7 +9,7 @@ use Rattle.std.specs.Option.{unwrap_or}
 use Rattle.fixpoint.specs.declared.plane.Pair.{Pair}
 use Rattle.variation_rules.specs.PackedPoints.{count_from}
 use Rattle.variation_rules.specs.InferredDelta.{still, around, FillsContour}
-use Rattle.variation_rules.specs.DrawnOutline.{named_delta, FillsContours, movement, drawn, phantom_movement, drawn_advance}
+use Rattle.variation_rules.specs.DrawnOutline.{named_delta, FillsContours, movement, phantom_movement}
 use Rattle.variation_rules.specs.Scalar.{scalar_of}
 use Rattle.variation_rules.specs.declared.tuple.TupleVariation.{TupleVariation}
 
@@ -20,12 +20,6 @@ named_first point points delta deltas i same = rw (eq-eqb point i same)
 -- and any other is looked for among the rest
 pub named_later : (point : ℕ) (points : List ℕ) (delta : Pair) (deltas : List Pair) (i : ℕ) → (point ≡ i → ⊥) → named_delta (point ∷ points) (delta ∷ deltas) i ≡ named_delta points deltas i
 named_later point points delta deltas i other = rw (ne_eqb point i other)
-
--- what the lists name from a place on
-pub named_here : (points : List ℕ) (deltas : List Pair) (k i : ℕ) → k < length points → k < length deltas → get_or points k 0 ≡ i → named_delta (drop k points) (drop k deltas) i ≡ Some (get_or deltas k still)
-named_here points deltas k i inside also same =
-    rw (drop_more points k 0 inside, drop_more deltas k still also)
-    (named_first (get_or points k 0) (drop (k + 1) points) (get_or deltas k still) (drop (k + 1) deltas) i same)
 
 pub named_further : (points : List ℕ) (deltas : List Pair) (k i : ℕ) → k < length points → k < length deltas → (get_or points k 0 ≡ i → ⊥) → named_delta (drop k points) (drop k deltas) i ≡ named_delta (drop (k + 1) points) (drop (k + 1) deltas) i
 named_further points deltas k i inside also other =
@@ -90,42 +84,6 @@ contours_of_given (n ∷ lengths) points given deltas whole one_each all =
           let inside : n + i < length points = omega (arith, length-drop n points) in
           all (n + i) inside ∙ ap Some (sym (get_or-drop n deltas i still))),
     )
-
--- a tuple that names all points of a glyph, the four phantom points among them, fills the outline with its own deltas
-pub fills_all_named : (lengths : List ℕ) (points deltas : List Pair) (total : ℕ) → sum lengths ≡ length points → total ≡ length points + 4 → length deltas ≡ total → FillsContours lengths points (named_delta (count_from total 0) deltas) (take (length points) deltas)
-fills_all_named lengths points deltas total whole phantom one_each =
-    contours_of_given lengths points (named_delta (count_from total 0) deltas) (take (length points) deltas) whole
-    (omega (arith, length-take (length points) deltas))
-    (λ i below. all_named total i deltas one_each (omega arith) ∙ ap Some (sym (get_or-take (length points) deltas i still below)))
-
--- one tuple moves a point by its scalar times the point's delta
-pub movement_of_one : (part : Pair → ℤ) (at : List ℤ) (tuple : TupleVariation) (deltas : List Pair) (point : ℕ) → movement part at (tuple ∷ []) (deltas ∷ []) point ≡ scalar_of 16 tuple.region at *ℤ part (get_or deltas point still)
-movement_of_one part at tuple deltas point = +ℤ_idr (scalar_of 16 tuple.region at *ℤ part (get_or deltas point still))
-
--- without a tuple every point stays
-pub drawn_of_none : (part : Pair → ℤ) (points : List Pair) (at : List ℤ) (point : ℕ) → drawn part points at [] [] point ≡ pos 65536 *ℤ part (get_or points point still)
-drawn_of_none part points at point = +ℤ_idr (pos 65536 *ℤ part (get_or points point still))
-
-pub drawn_of_one : (part : Pair → ℤ) (points : List Pair) (at : List ℤ) (tuple : TupleVariation) (deltas : List Pair) (point : ℕ) → drawn part points at (tuple ∷ []) (deltas ∷ []) point ≡ (pos 65536 *ℤ part (get_or points point still)) +ℤ (scalar_of 16 tuple.region at *ℤ part (get_or deltas point still))
-drawn_of_one part points at tuple deltas point = ap (λ z. (pos 65536 *ℤ part (get_or points point still)) +ℤ z) (movement_of_one part at tuple deltas point)
-
--- the same of a phantom point, which has the delta that the tuple names for it
-pub phantom_movement_of_one : (at : List ℤ) (tuple : TupleVariation) (point : ℕ) → phantom_movement at (tuple ∷ []) point ≡ scalar_of 16 tuple.region at *ℤ (unwrap_or (named_delta tuple.points tuple.deltas point) still).x
-phantom_movement_of_one at tuple point = +ℤ_idr (scalar_of 16 tuple.region at *ℤ (unwrap_or (named_delta tuple.points tuple.deltas point) still).x)
-
-pub drawn_advance_of_none : (advance : ℤ) (outline_points : ℕ) (at : List ℤ) → drawn_advance advance outline_points at [] ≡ pos 65536 *ℤ advance
-drawn_advance_of_none advance outline_points at = +ℤ_idr (pos 65536 *ℤ advance)
-
-pub drawn_advance_of_one : (advance : ℤ) (outline_points : ℕ) (at : List ℤ) (tuple : TupleVariation) → drawn_advance advance outline_points at (tuple ∷ []) ≡ (pos 65536 *ℤ advance) +ℤ (scalar_of 16 tuple.region at *ℤ (unwrap_or (named_delta tuple.points tuple.deltas (outline_points + 1)) still).x)
-drawn_advance_of_one advance outline_points at tuple = ap (λ z. (pos 65536 *ℤ advance) +ℤ z) (phantom_movement_of_one at tuple (outline_points + 1))
-
--- where the tuple names all points, that is the delta at the phantom point's place
-pub drawn_advance_all_named : (advance : ℤ) (outline_points : ℕ) (at : List ℤ) (tuple : TupleVariation) → tuple.points ≡ count_from (outline_points + 4) 0 → length tuple.deltas ≡ outline_points + 4 → drawn_advance advance outline_points at (tuple ∷ []) ≡ (pos 65536 *ℤ advance) +ℤ (scalar_of 16 tuple.region at *ℤ (get_or tuple.deltas (outline_points + 1) still).x)
-drawn_advance_all_named advance outline_points at tuple all one_each =
-    let named : named_delta tuple.points tuple.deltas (outline_points + 1) ≡ Some (get_or tuple.deltas (outline_points + 1) still) =
-    rw all (all_named (outline_points + 4) (outline_points + 1) tuple.deltas one_each (omega arith)) in
-    drawn_advance_of_one advance outline_points at tuple
-    ∙ ap (λ delta. (pos 65536 *ℤ advance) +ℤ (scalar_of 16 tuple.region at *ℤ (unwrap_or delta still).x)) named
 
 -- what one tuple more adds to a point's movement, where the tuples left complete it
 pub movement_step : (part : Pair → ℤ) (at : List ℤ) (tuples : List TupleVariation) (fills : List (List Pair)) (k point : ℕ) (tuple : TupleVariation) (fill : List Pair) (so_far moved whole : ℤ) → k < length tuples → k < length fills → tuple ≡ get_or tuples k tuple → fill ≡ get_or fills k fill → moved ≡ scalar_of 16 tuple.region at *ℤ part (get_or fill point still) → so_far +ℤ movement part at (drop k tuples) (drop k fills) point ≡ whole → (so_far +ℤ moved) +ℤ movement part at (drop (k + 1) tuples) (drop (k + 1) fills) point ≡ whole

@@ -86,16 +86,6 @@ after_is_one n given u q v w r near after some none same =
     (cases_lt m k))
     (cases_lt k m)
 
--- a point that is given a delta has it
-pub delta_from_own : (points : List Pair) (given : ℕ → Option Pair) (i : ℕ) (own : Pair) → i < length points → given i ≡ Some own → IsDeltaAt points given i own
-delta_from_own points given i own inside is = record {
-  named = λ other also. cc;
-  unmoved = λ none. let nothing = none i inside in absurd cc;
-  inferred = λ u q v first second on near _ _.
-      let nothing = near.none_between q near.before near.after in
-      absurd (no_none (given i) (some_is_some (given i) own is) (ap given (sym on) ∙ nothing));
-}
-
 -- in a contour without a given delta nothing moves
 pub delta_where_none : (points : List Pair) (given : ℕ → Option Pair) (i : ℕ) → i < length points → ((k : ℕ) → k < length points → given k ≡ None) → IsDeltaAt points given i still
 delta_where_none points given i inside none = record {
@@ -267,7 +257,7 @@ whole_contour n points given new fills =
     let few : length new ≤ n = omega (arith, fills.one_each, length-take n points) in
     (take_all n new few, drop_all n new few)
 
--- one contour more: the deltas of the first contours, and those of the next behind them
+-- one contour more: the deltas of the first contours, and those of the next after them
 pub contours_push : (lengths : List ℕ) (start n : ℕ) (points : List Pair) (given : ℕ → Option Pair) (deltas new : List Pair) → sum lengths ≡ start → length deltas ≡ start → FillsContours lengths points given deltas → FillsContour (take n (drop start points)) (λ k. given (start + k)) new → FillsContours (lengths ++ n ∷ []) points given (deltas ++ new)
 contours_push [] start n points given deltas new sum_is count fills next =
     let none : start ≡ 0 = sym sum_is in

@@ -1,20 +1,17 @@
 -- There is one list of deltas at most that fills the contours in a tuple, and so one drawing of a glyph at a location.
-use Rattle.std.proofs.Common.{◌≡◌, ℕ, ℤ, zero, suc, pos, ◌+◌, ◌-◌, ◌%◌, ◌<◌, ◌≤◌, ◌+ℤ◌, ◌*ℤ◌, sum, List, [], ◌∷◌, ◌++◌, length, take, drop, get_or, Option, Some, None, ◌⊎◌, refl, sym, ◌∙◌, ap, inl, inr, ⊎_elim, arith}
+use Rattle.std.proofs.Common.{◌≡◌, ℕ, ℤ, zero, suc, pos, ◌+◌, ◌-◌, ◌%◌, ◌<◌, ◌≤◌, ◌+ℤ◌, ◌*ℤ◌, List, [], ◌∷◌, ◌++◌, length, take, drop, get_or, Option, Some, None, ◌⊎◌, refl, sym, ◌∙◌, ap, inl, inr, ⊎_elim, arith}
 use Rattle.std.proofs.Math.Nat.{add-mod_right, mod-eq_of_lt}
 use Rattle.std.proofs.lemmas.Bool.{cases_lt, cases_eq}
-use Rattle.std.proofs.lemmas.List.{ext_get_or, take-append-drop, get_or-take}
+use Rattle.std.proofs.lemmas.List.{ext_get_or, take-append-drop}
 use Rattle.fixpoint.specs.declared.plane.Pair.{Pair}
 use Rattle.variation_rules.specs.InferredDelta.{still, around, AreNearest, FillsContour}
 use Rattle.variation_rules.specs.PointDelta.{IsInferred, IsDeltaAt}
-use Rattle.variation_rules.specs.DrawnOutline.{named_delta, FillsContours, Fills, drawn}
-use Rattle.variation_rules.specs.PackedPoints.{count_from}
-use Rattle.variation_rules.specs.Scalar.{scalar_of}
+use Rattle.variation_rules.specs.DrawnOutline.{named_delta, FillsContours, Fills}
 use Rattle.variation_rules.specs.DrawnGlyph.{IsDrawn}
 use Rattle.variation_rules.specs.declared.filling.Moved.{Moved}
 use Rattle.variation_rules.specs.declared.tuple.TupleVariation.{TupleVariation}
 use Rattle.variation_rules.specs.declared.drawing.DrawnPoint.{DrawnPoint}
 use Rattle.variation_rules.specs.declared.drawing.DrawnGlyph.{DrawnGlyph}
-use Rattle.variation_rules.proofs.DrawingLemmas.{fills_all_named, drawn_of_one}
 use Rattle.variation_rules.proofs.InferredLemmas.{between_is_one}
 use Rattle.variation_rules.proofs.FillingLemmas.{some_is_some, delta_of_contour, none_from_before, none_from_after}
 
@@ -181,18 +178,3 @@ drawn_is_one lengths points advance tuples at one other first second =
     let left : one ≡ record { points = other.points; advance = one.advance } = ap (λ (p : List DrawnPoint). record { points = p; advance = one.advance }) same in
     let right : record { points = other.points; advance = one.advance } ≡ other = ap (λ (a : ℤ). record { points = other.points; advance = a }) (first.advance_is ∙ sym second.advance_is) in
     left ∙ right
-
--- where one tuple names all points of a glyph, the four phantom points among them, they are filled with its own deltas
-pub fills_of_all_named : (lengths : List ℕ) (points : List Pair) (tuple : TupleVariation) (fills : List (List Pair)) → sum lengths ≡ length points → tuple.points ≡ count_from (length points + 4) 0 → length tuple.deltas ≡ length points + 4 → Fills lengths points (tuple ∷ []) fills → fills ≡ take (length points) tuple.deltas ∷ []
-fills_of_all_named lengths points tuple fills whole all one_each are =
-    let own : FillsContours lengths points (named_delta tuple.points tuple.deltas) (take (length points) tuple.deltas) = rw all (fills_all_named lengths points tuple.deltas (length points + 4) whole refl one_each) in
-    fills_are_one lengths points (tuple ∷ []) fills (take (length points) tuple.deltas ∷ []) are (own, tt)
-
--- and each is drawn at its default place plus the scalar's part of its delta
-pub drawn_all_named : (part : Pair → ℤ) (lengths : List ℕ) (points : List Pair) (at : List ℤ) (tuple : TupleVariation) (fills : List (List Pair)) (point : ℕ) → sum lengths ≡ length points → tuple.points ≡ count_from (length points + 4) 0 → length tuple.deltas ≡ length points + 4 → Fills lengths points (tuple ∷ []) fills → point < length points → drawn part points at (tuple ∷ []) fills point ≡ (pos 65536 *ℤ part (get_or points point still)) +ℤ (scalar_of 16 tuple.region at *ℤ part (get_or tuple.deltas point still))
-drawn_all_named part lengths points at tuple fills point whole all one_each are inside =
-    let own = fills_of_all_named lengths points tuple fills whole all one_each are in
-    let delta = get_or-take (length points) tuple.deltas point still inside in
-    ap (λ f. drawn part points at (tuple ∷ []) f point) own
-    ∙ (drawn_of_one part points at tuple (take (length points) tuple.deltas) point
-    ∙ ap (λ d. (pos 65536 *ℤ part (get_or points point still)) +ℤ (scalar_of 16 tuple.region at *ℤ part d)) delta)

@@ -1,7 +1,7 @@
 -- The inferred delta of one number: there is at most one, it lies between the references' deltas, and the
 -- order of the references doesn't count.
 -- `omega` reads a signed number z as `up z - down z`.
-use Rattle.std.proofs.Common.{◌≡◌, ◌≢◌, ◌⊎◌, inl, inr, ℕ, ℤ, zero, suc, pos, negsuc, neg_ℤ, ◌+◌, ◌*◌, ◌<◌, ◌≤◌, ◌+ℤ◌, ◌-ℤ◌, ◌*ℤ◌, ◌<ℤ◌, ◌≤ℤ◌, Option, Some, None, MatchOption, refl, sym, ◌∙◌, ap, arith}
+use Rattle.std.proofs.Common.{◌≡◌, subst, ◌≢◌, ◌⊎◌, inl, inr, ℕ, ℤ, zero, suc, pos, negsuc, neg_ℤ, ◌+◌, ◌*◌, ◌<◌, ◌≤◌, ◌+ℤ◌, ◌-ℤ◌, ◌*ℤ◌, ◌<ℤ◌, ◌≤ℤ◌, Option, Some, None, MatchOption, refl, sym, ◌∙◌, ap, arith}
 use Rattle.std.proofs.lemmas.Int.{ints, by_lt_z, quot-rem, rem_below}
 use Rattle.std.proofs.Math.Nat.{mul-le-mul_right, eq_of_mul-eq-mul_right, lt_of_mul-lt-mul_right}
 use Rattle.std.specs.Int.RustNames.{int_div, int_rem, unsigned_abs}
@@ -247,6 +247,12 @@ line_from_step c1 d1 c2 d2 c q left right step =
     let sum : up (d1 +ℤ q) + down d1 + down q ≡ down (d1 +ℤ q) + up d1 + up q = omega (arith, ints) in
     line_from_mean c1 d1 c2 d2 c (d1 +ℤ q) p
     (omega (arith, ints, ap (λ n. n * (p.below + p.above)) sum, times_pos q (p.below + p.above), pos_times (d2 -ℤ d1) p.below, part_of d2 d1 p.below))
+
+-- equal products put a delta on the line
+pub line_from_products : (c1 d1 c2 d2 c d : ℤ) → c1 <ℤ c → c <ℤ c2 → (d -ℤ d1) *ℤ (c2 -ℤ c1) ≡ (c -ℤ c1) *ℤ (d2 -ℤ d1) → OnLine c1 d1 c2 d2 c d
+line_from_products c1 d1 c2 d2 c d left right same =
+    let back : d1 +ℤ (d -ℤ d1) ≡ d = omega (arith, ints) in
+    subst (λ z. OnLine c1 d1 c2 d2 c z) back (line_from_step c1 d1 c2 d2 c (d -ℤ d1) left right same)
 
 -- and each delta on the line is such a step away
 pub step_from_line : (c1 d1 c2 d2 c d : ℤ) → c1 <ℤ c → c <ℤ c2 → OnLine c1 d1 c2 d2 c d → (d -ℤ d1) *ℤ (c2 -ℤ c1) ≡ (c -ℤ c1) *ℤ (d2 -ℤ d1)

@@ -8,7 +8,7 @@ pub record IsFWord (z : ℤ) : Type 0 where
   pub low : negsuc 32767 ≤ℤ z
   pub high : z ≤ℤ pos 32767
 
--- a place or a delta of the plane of such quantities
+-- a point or a delta of the plane of such quantities
 pub record AreFWords (pair : Pair) : Type 0 where
   pub x : IsFWord pair.x
   pub y : IsFWord pair.y

@@ -1,4 +1,4 @@
--- Packed deltas (OpenType, "Packed deltas"): a list of values as runs, each behind a control byte.
+-- Packed deltas (OpenType, "Packed deltas"): a list of values as runs, each after a control byte.
 use Rattle.std.specs.Prelude.{◌≡◌, ℕ, ℤ, pos, ◌+◌, ◌-◌, ◌<◌, ◌≤◌, List, [], ◌∷◌, length, map, All, FitsSigned, if◌then◌else◌, int_le, negsuc, ◌&&◌}
 use Rattle.std.specs.Ordering.{int_eq}
 use Rattle.std.specs.Int.{w8, w16, cast_unsigned}

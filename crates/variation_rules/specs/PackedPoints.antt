@@ -1,5 +1,5 @@
 -- Packed point numbers (OpenType, "Packed point numbers"): a count, and the differences from each number
--- to the next as runs, each behind a control byte.
+-- to the next as runs, each after a control byte.
 use Rattle.std.specs.Prelude.{zero, suc, ◌≡◌, ℕ, ◌+◌, ◌-◌, ◌/◌, ◌%◌, ◌^◌, ◌<◌, ◌≤◌, ◌⊎◌, List, [], ◌∷◌, ◌++◌, length, All, if◌then◌else◌, nat_lt}
 use Rattle.std.specs.List.{flat_map}
 use Rattle.variation_rules.specs.Fields.{word}
@@ -27,7 +27,7 @@ pub record IsPointRun (run : PointRun) : Type 0 where
   pub few : length run.differences ≤ 128
   pub held : All (HoldsDifference run.class) run.differences
 
--- the number of points listed, in one byte below 128 or in two bytes behind the flag 0x80
+-- the number of points listed, in one byte below 128 or in two bytes after the flag 0x80
 abbrev pub IsCount : ℕ → List ℕ → Type 0
 IsCount count bytes =
     ((count < 128) × (bytes ≡ count ∷ []))
@@ -60,7 +60,7 @@ pub record AreListedPoints (total : ℕ) (bytes points : List ℕ) : Type 0 wher
   pub rises : RisesWithin 0 total points
 
 -- The bytes stand for the points of a glyph that has so many, phantom points among them: all of them
--- behind a single 0, or those listed.
+-- after a single 0, or those listed.
 abbrev pub ReadsPoints : ℕ → List ℕ → List ℕ → Type 0
 ReadsPoints total bytes points =
     ((bytes ≡ 0 ∷ []) × (points ≡ count_from total 0)) ⊎ AreListedPoints total bytes points

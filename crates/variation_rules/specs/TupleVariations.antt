@@ -1,4 +1,4 @@
--- Glyph variation data (OpenType, "Tuple variation store" and "gvar"): a header for each tuple, and behind
+-- Glyph variation data (OpenType, "Tuple variation store" and "gvar"): a header for each tuple, and after
 -- the headers the packed points and deltas.
 use Rattle.std.specs.Prelude.{◌≡◌, ℕ, ℤ, pos, ◌+◌, ◌^◌, ◌<◌, ◌⊎◌, List, [], ◌∷◌, ◌++◌, length, map, All, Option, Some, None, Bool, true, false, FitsSigned, slice_get}
 use Rattle.std.specs.Int.{w16, int_min, int_max}
@@ -65,15 +65,15 @@ PeaksAt axes peaks (embedded coordinates) peak = (coordinates ≡ peak) × IsTup
 PeaksAt axes peaks (shared index) peak = (index < 2 ^ 12) × (slice_get peaks index ≡ Some peak) × IsTuple axes peak
 
 -- without an intermediate region an axis reaches from the default to its peak
-abbrev pub plain_triple : ℤ → Triple
-plain_triple peak = record { start = int_min (pos 0) peak; peak = peak; end = int_max (pos 0) peak }
+abbrev pub implied_triple : ℤ → Triple
+implied_triple peak = record { start = int_min (pos 0) peak; peak = peak; end = int_max (pos 0) peak }
 
 abbrev pub triples : List ℤ → List ℤ → List ℤ → List Triple
 triples (start ∷ starts) (peak ∷ peaks) (end ∷ ends) = record { start = start; peak = peak; end = end } ∷ triples starts peaks ends
 triples _ _ _ = []
 
 abbrev pub region_of : List ℤ → Option Ends → List Triple
-region_of peak None = map plain_triple peak
+region_of peak None = map implied_triple peak
 region_of peak (Some range) = triples range.starts peak range.ends
 
 abbrev pub AreEnds : ℕ → Option Ends → Type 0
@@ -124,7 +124,7 @@ abbrev pub shared_bits : Option (List ℕ) → ℕ
 shared_bits None = 0
 shared_bits (Some _) = 32768
 
--- The data of one glyph: the number of tuples with 0x8000 for shared points, the place behind the headers,
+-- The data of one glyph: the number of tuples with 0x8000 for shared points, the offset after the headers,
 -- the headers, the shared points, the packed parts.
 pub record IsGlyphData (Points : ℕ → List ℕ → List ℕ → Type 0) (Deltas : List ℕ → List ℤ → Type 0) (axes total : ℕ) (peaks : List (List ℤ)) (bytes : List ℕ) (tuples : List TupleVariation) : Type 0 where
   pub shared_points : Option (List ℕ)

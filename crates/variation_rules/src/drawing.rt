@@ -157,7 +157,7 @@ fn all_filled(
 }
 
 /// What tuple variations draw over a glyph's default drawing at a location (OpenType, "gvar"): each
-/// outline point at its default place plus, for each tuple, its delta times the scalar of the tuple's
+/// outline point where the default has it plus, for each tuple, its delta times the scalar of the tuple's
 /// region, and the advance likewise by the second phantom point. `lengths` are the numbers of points
 /// of the contours, and `points` and `advance` the default drawing in font units; points and deltas fit
 /// 16 bits, and there are fewer than 65,536 tuples. `None` where some inferred delta is no whole number.
@@ -192,7 +192,7 @@ pub fn draw(
 
 /// The law that the tuple variations of a glyph have one drawing at most at a location, since at most
 /// one list of deltas fills the outline in each tuple.
-pub fn one_drawing()
+pub fn drawing_law()
     ensures fills { FillOnce }
     ensures drawn { DrawOnce }
 {}

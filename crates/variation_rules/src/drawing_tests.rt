@@ -174,7 +174,7 @@ fn a_triangle_moves(rt: HostRuntime) -> Result<(), Fail> {
     Ok(())
 }
 
-// Of a square two corners are named and the others inferred; a triangle behind it has no named point, and
+// Of a square two corners are named and the others inferred; a triangle after it has no named point, and
 // the phantom points aren't inferred.
 #[test]
 fn a_square_follows_two_corners(rt: HostRuntime) -> Result<(), Fail> {
@@ -211,8 +211,8 @@ fn a_square_follows_two_corners(rt: HostRuntime) -> Result<(), Fail> {
     assert_eq!(rt; end.advance, 600 * 65536);
 
     // The second contour's points are named by their numbers in the outline.
-    let behind = tuple(alloc, &[5], &[pair(7, -1)])?;
-    let found = filled(alloc, &[4, 3], &points, &behind)?.ok_or("filled")?;
+    let after = tuple(alloc, &[5], &[pair(7, -1)])?;
+    let found = filled(alloc, &[4, 3], &points, &after)?.ok_or("filled")?;
     let still = pair(0, 0);
     let all = pair(7, -1);
     assert_eq!(rt;

@@ -25,7 +25,7 @@ pub fn inferred_delta(first: Reference, second: Reference, at: i64) -> Option<i6
         inferred_upward(first, second, at)
     } else if second.at < first.at {
         inferred_upward(second, first, at)
-    } else if is_same(first.delta, second.delta) {
+    } else if first.delta == second.delta {
         Some(first.delta)
     } else {
         Some(0)
@@ -77,7 +77,7 @@ fn step_to(first: Reference, second: Reference, at: i64) -> Option<i64>
     let way = difference(at, first.at);
     let whole = difference(second.at, first.at);
     let rise = difference(second.delta, first.delta);
-    exact_quotient(times(way, rise), whole)
+    exact_quotient(way * rise, whole)
 }
 
 // The whole number that gives the product with the factor, if there is one.
@@ -99,18 +99,4 @@ fn difference(a: i64, b: i64) -> i64
     ensures within { IsDifference result }
 {
     a - b
-}
-
-fn times(a: i64, b: i64) -> i64
-    requires a { IsDifference a }
-    requires b { IsDifference b }
-    ensures { result ≡ a *ℤ b }
-{
-    a * b
-}
-
-fn is_same(a: i64, b: i64) -> bool
-    ensures { IsTrue result ↔ (a ≡ b) }
-{
-    a == b
 }

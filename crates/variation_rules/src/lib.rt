@@ -17,7 +17,7 @@ mod runs;
 mod scalars;
 mod tuple;
 
-pub use drawing::{DrawnGlyph, DrawnPoint, draw, one_drawing};
+pub use drawing::{DrawnGlyph, DrawnPoint, draw, drawing_law};
 pub use filling::filled;
 pub use inferred::{Reference, inferred_delta};
 pub use region::Triple;

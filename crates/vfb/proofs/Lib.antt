@@ -1,5 +1,5 @@
 pub mod WordLemmas
-pub mod PlacedLemmas
+pub mod LocatedLemmas
 pub mod MasterLemmas
 pub mod GlyphLemmas
 pub mod ReadingLemmas

@@ -1,15 +1,17 @@
 -- What is said in all: the text of a command itself, and then the line of how it ended.
 use Rattle.std.proofs.Common.{◌≡◌, ℕ, ◌≤◌, List, [], ◌∷◌, ◌++◌, codes, Bor, Option, Some, None, Result, Ok, Err, OnOk, OnErr, refl, sym, ◌∙◌, ap, subst, inl, inr, arith, append_assoc, append-nil}
 use Rattle.std.proofs.lemmas.List.{append_cancel_left}
-use Rattle.outside.specs.Files.{Files, IsFront, HasRisen}
+use Rattle.outside.specs.Files.{Files, IsPrefix, HasRisen}
 use Rattle.outside.specs.Said.{Says}
+use Rattle.outside.specs.States.{SourcesState, OutputsState, SayState}
 use Rattle.basics.specs.declared.fault.Fault.{Fault}
-use Rattle.vfb.specs.Command.{Tuples}
+use Rattle.vfb.specs.Command.{Command}
 use Rattle.vfb.specs.Ending.{status_of, ending_line}
-use Rattle.vfb.specs.Masters.{Masters, masters_of}
+use Rattle.vfb.specs.Work.{Work}
 use Rattle.vfb.specs.Lines.{AddsLine, write_fault_line, read_fault_line, refused_line}
-use Rattle.vfb.specs.Outcome.{IsAnswer, IsAnswerTo, SaysOf, IsSaid, Fails, IsCut, BreaksOff}
-use Rattle.vfb.specs.Performing.{SaysFront, SaysItself, IsSaidItself, FailsItself, IsCutItself, Performs}
+use Rattle.vfb.specs.Outcome.{IsAnswer, IsAnswerTo, SaysOf, IsSaid, Fails, IsCut, BreaksOff, HasWork, EndsBy}
+use Rattle.vfb.proofs.PerformingLemmas.{complete}
+use Rattle.vfb.specs.Performing.{SaysPrefix, SaysItself, IsSaidItself, FailsItself, IsCutItself, Performs}
 use Rattle.vfb.specs.declared.status.Status.{Status}
 use Rattle.vfb.specs.declared.status.Status.TheVariants as status
 use Rattle.vfb.specs.declared.ending.Ending.{Ending}
@@ -17,21 +19,21 @@ use Rattle.vfb.specs.declared.ending.Ending.TheVariants.{Done, Refused, Usage, R
 
 -- ---- one line
 
--- a call that says a line adds it, or a front where the count of faults rose
-pub AddsLine-from : {V E risen : Type 0} (result : Result V E) (line old new : List ℕ) → OnOk result (new ≡ old ++ line) → OnErr result (IsFront old new × IsFront new (old ++ line)) → OnErr result risen → AddsLine risen line old new
-AddsLine-from (Ok _) line old new whole front risen = inl whole
-AddsLine-from (Err _) line old new whole front risen = inr (risen, front.0, front.1)
+-- a call that says a line adds it, or a prefix where the count of faults rose
+pub AddsLine-from : {V E risen : Type 0} (result : Result V E) (line old new : List ℕ) → OnOk result (new ≡ old ++ line) → OnErr result (IsPrefix old new × IsPrefix new (old ++ line)) → OnErr result risen → AddsLine risen line old new
+AddsLine-from (Ok _) line old new whole prefix risen = inl whole
+AddsLine-from (Err _) line old new whole prefix risen = inr (risen, prefix.0, prefix.1)
 
 -- the same of a text that was said before, and of a longer call
 pub AddsLine-wider : {inner risen : Type 0} (line old mid new : List ℕ) → (inner → risen) → mid ≡ old → AddsLine inner line mid new → AddsLine risen line old new
 AddsLine-wider {risen = risen} line old mid new wider same (inl whole) = inl (whole ∙ ap (λ said. said ++ line) same)
 AddsLine-wider {risen = risen} line old mid new wider same (inr cut) =
-    inr (wider cut.0, subst (λ said. IsFront said new) same cut.1, subst (λ said. IsFront new (said ++ line)) same cut.2)
+    inr (wider cut.0, subst (λ said. IsPrefix said new) same cut.1, subst (λ said. IsPrefix new (said ++ line)) same cut.2)
 
--- what is nothing with more behind it is nothing
-nothing_before : (front rest : List ℕ) → front ++ rest ≡ [] → front ≡ []
+-- what is nothing with more after it is nothing
+nothing_before : (prefix rest : List ℕ) → prefix ++ rest ≡ [] → prefix ≡ []
 nothing_before [] rest none = refl
-nothing_before (b ∷ front) rest none = absurd cc
+nothing_before (b ∷ prefix) rest none = absurd cc
 
 -- adding no line changes nothing
 pub AddsLine-none : {risen : Type 0} (old new : List ℕ) → AddsLine risen [] old new → new ≡ old
@@ -41,37 +43,37 @@ AddsLine-none old new (inr cut) =
     let second = cut.2 in
     let none : first.0 ++ second.0 ≡ [] =
     append_cancel_left old (first.0 ++ second.0) [] (sym (append_assoc old first.0 second.0) ∙ (ap (λ said. said ++ second.0) first.1 ∙ second.1)) in
-    sym first.1 ∙ (ap (λ front. old ++ front) (nothing_before first.0 second.0 none) ∙ append-nil old)
+    sym first.1 ∙ (ap (λ prefix. old ++ prefix) (nothing_before first.0 second.0 none) ∙ append-nil old)
 
--- a front of the summary, and then the line of a fault of saying
+-- a prefix of the summary, and then the line of a fault of saying
 BreaksOff-from : {inner later risen : Type 0} (text old mid new : List ℕ) → (inner → risen) → (later → risen)
-    → SaysFront inner text old mid → AddsLine later (write_fault_line (codes "-")) mid new → BreaksOff risen text old new
+    → SaysPrefix inner text old mid → AddsLine later (write_fault_line (codes "-")) mid new → BreaksOff risen text old new
 BreaksOff-from text old mid new first second says adds =
     (first says.0, (says.1.0, says.1.1, AddsLine-wider (write_fault_line (codes "-")) (old ++ says.1.0) mid new second says.1.2 adds))
 
 -- ---- the whole
 
 module _ {inner later risen : Type 0} (first : inner → risen) (second : later → risen) where
-  SaysOf-from : (command : Tuples) (files : Files) (reading : Result Masters Fault) (old mid new : List ℕ) (ending : Ending)
+  SaysOf-from : (command : Command) (files : Files) (reading : Result Work Fault) (old mid new : List ℕ) (ending : Ending)
       → IsAnswerTo reading (status_of ending) → SaysItself command files reading inner old mid ending → AddsLine later (ending_line ending) mid new
       → SaysOf command files reading risen old new (status_of ending)
-  SaysOf-from command files (Ok masters) old mid new Done answer (made, of, says) adds = (made, of, AddsLine-none mid new adds ∙ says)
-  SaysOf-from command files (Ok masters) old mid new (Refused fault) answer says adds = absurd answer
-  SaysOf-from command files (Ok masters) old mid new Usage answer says adds = absurd answer
-  SaysOf-from command files (Ok masters) old mid new (ReadFault path) answer (at, same) adds = (path.now, at, AddsLine-wider (read_fault_line path.now) old mid new second same adds)
-  SaysOf-from command files (Ok masters) old mid new (WriteFault path) answer (inl at) adds =
-      inl (subst (λ path. AddsLine risen (write_fault_line path) old new) at.0 (AddsLine-wider (write_fault_line path.now) old mid new second at.1 adds))
-  SaysOf-from command files (Ok masters) old mid new (WriteFault path) answer (inr (at, (made, of, says))) adds =
-      inr (made, of, BreaksOff-from made.summary old mid new first second says (subst (λ path. AddsLine later (write_fault_line path) mid new) at adds))
-  SaysOf-from command files (Ok masters) old mid new NoMemory answer says adds = AddsLine-wider _ old mid new second says adds
+  SaysOf-from command files (Ok work) old mid new Done answer (product, made, says) adds = (product, made, AddsLine-none mid new adds ∙ says)
+  SaysOf-from command files (Ok work) old mid new (Refused fault) answer says adds = absurd answer
+  SaysOf-from command files (Ok work) old mid new Usage answer says adds = absurd answer
+  SaysOf-from command files (Ok work) old mid new (ReadFault path) answer (at, same) adds = (path, at, AddsLine-wider (read_fault_line path) old mid new second same adds)
+  SaysOf-from command files (Ok work) old mid new (WriteFault path) answer (product, made, inl (at, same)) adds =
+      (product, made, inl (path.now, at, AddsLine-wider (write_fault_line path.now) old mid new second same adds))
+  SaysOf-from command files (Ok work) old mid new (WriteFault path) answer (product, made, inr (at, says)) adds =
+      (product, made, inr (BreaksOff-from product.text old mid new first second says (subst (λ path. AddsLine later (write_fault_line path) mid new) at adds)))
+  SaysOf-from command files (Ok work) old mid new NoMemory answer says adds = AddsLine-wider _ old mid new second says adds
   SaysOf-from command files (Err fault) old mid new Done answer says adds = absurd answer
   SaysOf-from command files (Err fault) old mid new (Refused found) answer says adds = AddsLine-wider (refused_line found) old mid new second says adds
   SaysOf-from command files (Err fault) old mid new Usage answer says adds = absurd answer
-  SaysOf-from command files (Err fault) old mid new (ReadFault path) answer (at, same) adds = (path.now, at, AddsLine-wider (read_fault_line path.now) old mid new second same adds)
+  SaysOf-from command files (Err fault) old mid new (ReadFault path) answer (at, same) adds = (path, at, AddsLine-wider (read_fault_line path) old mid new second same adds)
   SaysOf-from command files (Err fault) old mid new (WriteFault path) answer says adds = absurd answer
   SaysOf-from command files (Err fault) old mid new NoMemory answer says adds = AddsLine-wider _ old mid new second says adds
 
-  pub IsSaid-from : (command : Option Tuples) (files : Files) (old mid new : List ℕ) (ending : Ending)
+  pub IsSaid-from : (command : Option Command) (files : Files) (old mid new : List ℕ) (ending : Ending)
       → IsAnswer command files (status_of ending) → IsSaidItself command files inner old mid ending → AddsLine later (ending_line ending) mid new
       → IsSaid command files risen old new (status_of ending)
   IsSaid-from None files old mid new Usage answer says adds = AddsLine-wider _ old mid new second says adds
@@ -80,23 +82,23 @@ module _ {inner later risen : Type 0} (first : inner → risen) (second : later 
   IsSaid-from None files old mid new (ReadFault _) answer says adds = absurd answer
   IsSaid-from None files old mid new (WriteFault _) answer says adds = absurd answer
   IsSaid-from None files old mid new NoMemory answer says adds = absurd answer
-  IsSaid-from (Some command) files old mid new ending answer says adds = SaysOf-from command files (masters_of files command) old mid new ending answer says adds
+  IsSaid-from (Some command) files old mid new ending _ (reading, is, answer, says) adds = (reading, is, SaysOf-from command files reading old mid new ending answer says adds)
 
-  Fails-from : (command : Tuples) (reading : Result Masters Fault) (old new : Files) (said_old said_mid said_new : List ℕ) (path : Bor (List ℕ))
+  Fails-from : (command : Command) (reading : Result Work Fault) (old new : Files) (said_old said_mid said_new : List ℕ) (path : Bor (List ℕ))
       → FailsItself command reading inner old new said_old said_mid (WriteFault path) → AddsLine later (write_fault_line path.now) said_mid said_new
       → Fails command reading risen old new said_old said_new
   Fails-from command (Err fault) old new said_old said_mid said_new path cut adds = absurd cut
-  Fails-from command (Ok masters) old new said_old said_mid said_new path (made, of, inl (at, cut, same)) adds =
-      (made, of, inl (cut, subst (λ path. AddsLine risen (write_fault_line path) said_old said_new) at (AddsLine-wider (write_fault_line path.now) said_old said_mid said_new second same adds)))
-  Fails-from command (Ok masters) old new said_old said_mid said_new path (made, of, inr (at, whole, says)) adds =
-      (made, of, inr (whole, BreaksOff-from made.summary said_old said_mid said_new first second says (subst (λ path. AddsLine later (write_fault_line path) said_mid said_new) at adds)))
+  Fails-from command (Ok work) old new said_old said_mid said_new path (product, made, inl (cut, same)) adds =
+      (product, made, inl (path.now, cut, AddsLine-wider (write_fault_line path.now) said_old said_mid said_new second same adds))
+  Fails-from command (Ok work) old new said_old said_mid said_new path (product, made, inr (at, whole, says)) adds =
+      (product, made, inr (whole, BreaksOff-from product.text said_old said_mid said_new first second says (subst (λ path. AddsLine later (write_fault_line path) said_mid said_new) at adds)))
 
-  pub IsCut-from : (command : Option Tuples) (files : Files) (old new : Files) (said_old said_mid said_new : List ℕ) (ending : Ending)
+  pub IsCut-from : (command : Option Command) (files : Files) (old new : Files) (said_old said_mid said_new : List ℕ) (ending : Ending)
       → status_of ending ≡ status.WriteFault → IsCutItself command files inner old new said_old said_mid ending → AddsLine later (ending_line ending) said_mid said_new
       → IsCut command files risen old new said_old said_new
   IsCut-from None files old new said_old said_mid said_new (WriteFault path) is cut adds = absurd cut
-  IsCut-from (Some command) files old new said_old said_mid said_new (WriteFault path) is cut adds =
-      Fails-from command (masters_of files command) old new said_old said_mid said_new path cut adds
+  IsCut-from (Some command) files old new said_old said_mid said_new (WriteFault path) is (reading, work, cut) adds =
+      (reading, work, Fails-from command reading old new said_old said_mid said_new path cut adds)
   IsCut-from command files old new said_old said_mid said_new Done is cut adds = absurd cc
   IsCut-from command files old new said_old said_mid said_new (Refused _) is cut adds = absurd cc
   IsCut-from command files old new said_old said_mid said_new Usage is cut adds = absurd cc
@@ -114,24 +116,28 @@ rises_late old mid new grows rose = omega arith
 
 -- ---- a command and its line
 
-module _ {X Y Z V E : Type 0}
-    {tells : X → Type 0} {sources : X → Files} {read_faults : X → ℕ} {reads_surely : X → Type 0}
-    {tells_outputs : Y → Type 0} {outputs : Y → Files} {write_faults : Y → ℕ} {writes_surely : Y → Type 0} {room : Y → List ℕ → Option ℕ}
-    {tells_said : Z → Type 0} {said : Z → List ℕ} {say_faults : Z → ℕ} {says_surely : Z → Type 0} {say_room : Z → ℕ}
-    {x x' : X} {y y' : Y} {z z' z'' : Z} {command : Option Tuples} {ending : Ending} {result : Result V E} {state : Status}
-    (does : Performs tells sources read_faults reads_surely tells_outputs outputs write_faults writes_surely room tells_said said say_faults says_surely say_room x x' y y' z z' command ending)
-    (says : Says tells_said said say_faults says_surely say_room z' z'' (ending_line ending) result) (is : state ≡ status_of ending) where
-  adds : tells_said z → AddsLine (HasRisen (say_faults z') (say_faults z'')) (ending_line ending) (said z') (said z'')
-  adds told = AddsLine-from result (ending_line ending) (said z') (said z'') (says.whole (does.told told)) (says.front (does.told told)) says.risen
+module _ {V E : Type 0} {sources sources' : SourcesState} {outputs outputs' : OutputsState} {say mid last : SayState}
+    {command : Option Command} {ending : Ending} {result : Result V E} {state : Status}
+    (does : Performs sources sources' outputs outputs' say mid command ending)
+    (says : Says mid last (ending_line ending) result) (is : state ≡ status_of ending) where
+  adds : say.tells → AddsLine (HasRisen mid.faults last.faults) (ending_line ending) mid.said last.said
+  adds told = AddsLine-from result (ending_line ending) mid.said last.said (says.whole (does.told told)) (says.prefix (does.told told)) says.risen
 
-  pub IsSaid-with_line : tells x → tells_said z → IsSaid command (sources x) (HasRisen (say_faults z) (say_faults z'')) (said z) (said z'') state
+  pub IsSaid-with_line : sources.tells → say.tells → IsSaid command sources.files (HasRisen say.faults last.faults) say.said last.said state
   IsSaid-with_line told told_said =
-      subst (IsSaid command (sources x) (HasRisen (say_faults z) (say_faults z'')) (said z) (said z'')) (sym is)
-      (IsSaid-from (rises_early (say_faults z) (say_faults z') (say_faults z'') says.counted) (rises_late (say_faults z) (say_faults z') (say_faults z'') does.counted)
-      command (sources x) (said z) (said z') (said z'') ending (does.answer told) (does.said_itself told told_said) (adds told_said))
+      subst (IsSaid command sources.files (HasRisen say.faults last.faults) say.said last.said) (sym is)
+      (IsSaid-from (rises_early say.faults mid.faults last.faults says.counted) (rises_late say.faults mid.faults last.faults does.counted)
+      command sources.files say.said mid.said last.said ending (does.answer told) (does.said_itself told told_said) (adds told_said))
 
-  pub IsCut-with_line : tells x → tells_outputs y → tells_said z → state ≡ status.WriteFault
-      → IsCut command (sources x) (HasRisen (say_faults z) (say_faults z'')) (outputs y) (outputs y') (said z) (said z'')
+  pub IsCut-with_line : sources.tells → outputs.tells → say.tells → state ≡ status.WriteFault
+      → IsCut command sources.files (HasRisen say.faults last.faults) outputs.files outputs'.files say.said last.said
   IsCut-with_line told told_outputs told_said fails =
-      IsCut-from (rises_early (say_faults z) (say_faults z') (say_faults z'') says.counted) (rises_late (say_faults z) (say_faults z') (say_faults z'') does.counted)
-      command (sources x) (outputs y) (outputs y') (said z) (said z') (said z'') ending (sym is ∙ fails) (does.cut told told_outputs told_said) (adds told_said)
+      IsCut-from (rises_early say.faults mid.faults last.faults says.counted) (rises_late say.faults mid.faults last.faults does.counted)
+      command sources.files outputs.files outputs'.files say.said mid.said last.said ending (sym is ∙ fails) (does.cut told told_outputs told_said) (adds told_said)
+
+  pub complete-with_line : sources.tells → HasWork command sources.files → (HasRisen sources.faults sources'.faults → ⊥) → (HasRisen outputs.faults outputs'.faults → ⊥)
+      → (HasRisen say.faults last.faults → ⊥) → EndsBy ⊥ state
+  complete-with_line told has reads writes saying =
+      subst (EndsBy ⊥) (sym is)
+      (complete command sources.files (status_of ending) (does.answer told) has (λ e. reads (does.read e))
+      (λ e. elim (does.write e) [ inl rose ↦ writes rose | inr rose ↦ saying (rises_early say.faults mid.faults last.faults says.counted rose) ]))

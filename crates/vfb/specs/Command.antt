@@ -7,14 +7,18 @@ use Rattle.fixpoint.specs.declared.decimal.NumberFault.{NumberFault}
 use Rattle.basics.specs.Optional.{◌>>=◌, each}
 
 -- a drawing's file, and where in the design space it stands: one normalised coordinate an axis
-pub record Placed : Type 0 where
+pub record Located : Type 0 where
   pub path : List ℕ
   pub at : List ℤ
 
 -- the file to write, and the drawings whose glyph it is about
 pub record Tuples : Type 0 where
   pub out : List ℕ
-  pub drawings : List Placed
+  pub drawings : List Located
+
+-- what words ask for: one case a command
+pub data Command : Type 0 where
+  tuples : Tuples → Command
 
 -- a number from -16384 to 16384
 abbrev pub coordinate_by : Result ℤ NumberFault → Option ℤ
@@ -26,24 +30,24 @@ unfoldable pub coordinate_of : List ℕ → Option ℤ
 coordinate_of text = coordinate_by (whole_of text)
 
 -- coordinates of at most eight axes, with commas between them
-unfoldable pub place_of : List ℕ → Option (List ℤ)
-place_of text = each coordinate_of (slice_split (λ b. b == 44) text) >>= λ at. if nat_le (length at) 8 then Some at else None
+unfoldable pub location_of : List ℕ → Option (List ℤ)
+location_of text = each coordinate_of (slice_split (λ b. b == 44) text) >>= λ at. if nat_le (length at) 8 then Some at else None
 
--- a path, behind its last sign @ the place
-unfoldable pub placed_of : List ℕ → Option Placed
-placed_of word = rsplit_once 64 word >>= λ parts. place_of parts.1 >>= λ at. Some (record { path = parts.0; at = at })
+-- a path, after its last sign @ the location
+unfoldable pub located_of : List ℕ → Option Located
+located_of word = rsplit_once 64 word >>= λ parts. location_of parts.1 >>= λ at. Some (record { path = parts.0; at = at })
 
 -- all drawings stand on the axes of the first, which there is
-abbrev pub are_on_axes : List Placed → Bool
+abbrev pub are_on_axes : List Located → Bool
 are_on_axes [] = false
-are_on_axes (first ∷ more) = list_all (λ placed. nat_eq (length placed.at) (length first.at)) more
+are_on_axes (first ∷ more) = list_all (λ located. nat_eq (length located.at) (length first.at)) more
 
-abbrev pub drawings_named : List (List ℕ) → Option (List Placed)
-drawings_named words = each placed_of words >>= λ drawings. if nat_le (length drawings) 128 && are_on_axes drawings then Some drawings else None
+abbrev pub drawings_named : List (List ℕ) → Option (List Located)
+drawings_named words = each located_of words >>= λ drawings. if nat_le (length drawings) 128 && are_on_axes drawings then Some drawings else None
 
--- The words are the program's name, `tuples`, the file to write, and 1 to 128 drawings at places of as many axes. All
+-- The words are the program's name, `tuples`, the file to write, and 1 to 128 drawings at locations of as many axes. All
 -- other words are none of a command.
-abbrev pub command_of : List (List ℕ) → Option Tuples
+abbrev pub command_of : List (List ℕ) → Option Command
 command_of (program ∷ name ∷ out ∷ words) =
-    if bytes_eq name (codes "tuples") then (drawings_named words >>= λ drawings. Some (record { out = out; drawings = drawings })) else None
+    if bytes_eq name (codes "tuples") then (drawings_named words >>= λ drawings. Some (tuples (record { out = out; drawings = drawings }))) else None
 command_of _ = None

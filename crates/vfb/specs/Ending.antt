@@ -1,8 +1,8 @@
 -- The status and the line of each way in which a command ends.
 use Rattle.std.specs.Prelude.{ℕ, List, []}
 use Rattle.vfb.specs.Lines.{refused_line, usage_line, read_fault_line, write_fault_line, no_memory_line}
-use Rattle.vfb.specs.declared.faults.ReadStop.{ReadStop}
-use Rattle.vfb.specs.declared.faults.ReadStop.TheVariants as stop
+use Rattle.source_files.specs.declared.stop.ReadStop.{ReadStop}
+use Rattle.source_files.specs.declared.stop.ReadStop.TheVariants as stop
 use Rattle.vfb.specs.declared.status.Status.{Status}
 use Rattle.vfb.specs.declared.status.Status.TheVariants as status
 use Rattle.vfb.specs.declared.ending.Ending.{Ending}
@@ -27,6 +27,6 @@ abbrev pub ending_line : Ending → List ℕ
 ending_line Done = []
 ending_line (Refused fault) = refused_line fault
 ending_line Usage = usage_line
-ending_line (ReadFault path) = read_fault_line path.now
+ending_line (ReadFault path) = read_fault_line path
 ending_line (WriteFault path) = write_fault_line path.now
 ending_line NoMemory = no_memory_line

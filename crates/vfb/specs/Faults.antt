@@ -1,17 +1,16 @@
 -- The drawings that a command names, or the first fault of their files.
-use Rattle.std.specs.Prelude.{ℕ, ◌-◌, ◌^◌, min, pos, List, [], ◌∷◌, length, Option, Some, None, Result, Ok, Err, nat_le, if◌then◌else◌}
+use Rattle.std.specs.Prelude.{pos, List, [], ◌∷◌, Result, Ok, Err}
 use Rattle.outside.specs.Files.{Files}
 use Rattle.basics.specs.Reading.{◌>>=◌, each, spot_of}
-use Rattle.basics.specs.declared.kinds.Kind.{Kind}
-use Rattle.basics.specs.declared.kinds.Kind.TheVariants.{MissingFile, FileTooLong, DanglingComponent}
+use Rattle.basics.specs.declared.kinds.Kind.TheVariants.{DanglingComponent}
 use Rattle.basics.specs.declared.fault.Fault.{Fault}
 use Rattle.basics.specs.declared.fault.Spot.{Spot}
-use Rattle.glif.specs.Texts.{drawing_of_text}
+use Rattle.markup_rules.specs.Tree.{Tree}
+use Rattle.source_files.specs.Trees.{in_file, tree_at}
+use Rattle.glif.specs.Glyphs.{drawing_of}
 use Rattle.glif.specs.declared.shape.Component.{Component}
 use Rattle.glif.specs.declared.shape.Drawing.{Drawing}
-use Rattle.vfb.specs.Command.{Placed}
-
--- ---- what a text draws
+use Rattle.vfb.specs.Command.{Located}
 
 -- a glyph's drawings stand alone, so that no component has a base: the first one is lost
 abbrev pub alone_by : Drawing → List Component → Result Drawing Spot
@@ -21,36 +20,14 @@ alone_by drawing (component ∷ components) = Err (spot_of DanglingComponent dra
 abbrev pub alone : Drawing → Result Drawing Spot
 alone drawing = alone_by drawing drawing.components
 
--- a text is that of a GLIF, and its drawing stands alone
-unfoldable pub read_as : List ℕ → Result Drawing Spot
-read_as text = drawing_of_text text >>= λ drawing. alone drawing
+-- a tree is that of a GLIF, and its drawing stands alone
+unfoldable pub drawn_alone : Tree → Result Drawing Spot
+drawn_alone tree = drawing_of tree >>= λ drawing. alone drawing
 
--- ---- what a file draws
-
--- a fault at a place of a file
-abbrev pub fault_at : List ℕ → Spot → Fault
-fault_at path spot = record { path = path; spot = spot }
-
--- a fault of a file as a whole
-abbrev pub file_fault : Kind → List ℕ → Fault
-file_fault kind path = fault_at path (spot_of kind [] 0 (pos 0))
-
--- how long a file is that is too long, or the greatest number of 64 bits with a sign where it is longer
-abbrev pub length_fault : ℕ → List ℕ → Fault
-length_fault size path = fault_at path (spot_of FileTooLong [] 0 (pos (min size (2 ^ 63 - 1))))
-
-abbrev pub in_file : List ℕ → Result Drawing Spot → Result Drawing Fault
-in_file path (Ok drawing) = Ok drawing
-in_file path (Err spot) = Err (fault_at path spot)
-
--- what a file draws: it is there, and has at most 67,108,864 bytes
-abbrev pub drawing_in : Option (List ℕ) → List ℕ → Result Drawing Fault
-drawing_in None path = Err (file_fault MissingFile path)
-drawing_in (Some bytes) path = if nat_le (length bytes) 67108864 then in_file path (read_as bytes) else Err (length_fault (length bytes) path)
-
-abbrev pub drawing_at : Files → Placed → Result Drawing Fault
-drawing_at files placed = drawing_in (files placed.path) placed.path
+-- what the file of a drawing draws: the drawing of its tree, or the first fault of the file
+unfoldable pub drawing_at : Files → Located → Result Drawing Fault
+drawing_at files located = tree_at files located.path >>= λ tree. in_file located.path (drawn_alone tree)
 
 -- what the files draw, in the order of the words, or the fault of the first that has one
-abbrev pub drawings_of : Files → List Placed → Result (List Drawing) Fault
+abbrev pub drawings_of : Files → List Located → Result (List Drawing) Fault
 drawings_of files drawings = each (drawing_at files) drawings

@@ -14,11 +14,6 @@ use Rattle.glyph_variations.specs.Draws.{Draws}
 use Rattle.vfb.specs.Lines.{counts_line}
 use Rattle.vfb.specs.Masters.{Masters}
 
--- what is written of a glyph, and what is said of it
-pub record Made : Type 0 where
-  pub bytes : List ℕ
-  pub summary : List ℕ
-
 -- how many points the default's outline has
 abbrev pub outline_count : Masters → ℕ
 outline_count masters = length (points_of (default_of masters.outlines))
@@ -35,14 +30,14 @@ abbrev pub regions : Masters → List (List Triple)
 regions masters = regions_of masters.locations
 
 -- The bytes are the one spelling of the tuple variations of the masters' model, which name on each contour its least set
--- of points, and what is said are their counts. (A model has one list of tuple variations: a law of theirs.)
-pub record IsMadeOf (masters : Masters) (made : Made) : Type 0 where
+-- of points, and the text is the line of their counts. (A model has one list of tuple variations: a law of theirs.)
+pub record IsDataOf (masters : Masters) (bytes text : List ℕ) : Type 0 where
   pub model : GlyphModel
   pub tuples : List TupleVariation
   pub is_model : IsModelOf (regions masters) masters.locations masters.outlines model
   pub are_its : AreVariations model.lengths (regions masters) model.tuples tuples
-  pub written : IsWritten (all_count masters) made.bytes tuples
-  pub counted : made.summary ≡ counts_line (length tuples) (explicit_points (outline_count masters) tuples) (outline_points (outline_count masters) tuples)
+  pub written : IsWritten (all_count masters) bytes tuples
+  pub counted : text ≡ counts_line (length tuples) (explicit_points (outline_count masters) tuples) (outline_points (outline_count masters) tuples)
 
 -- The bytes are glyph variation data. Drawn over the default's drawing they give at every location, for each coordinate
 -- and for the advance, the value of the support model; and at each master's own location, rounded, what it draws.

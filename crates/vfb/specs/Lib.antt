@@ -7,6 +7,8 @@ pub mod Masters
 pub mod Making
 pub mod Outcome
 pub mod Performing
+pub mod Product
+pub mod Work
 pub mod Stops
 pub mod Words
 pub mod Writing

@@ -2,7 +2,7 @@
 use Rattle.std.specs.Prelude.{◌≡◌, ℕ, List, [], ◌∷◌, ◌++◌, codes, decimal, ◌⊎◌}
 use Rattle.std.specs.List.{concat}
 use Rattle.std.specs.Fmt.{signed_decimal}
-use Rattle.outside.specs.Files.{IsFront}
+use Rattle.outside.specs.Files.{IsPrefix}
 use Rattle.basics.specs.Kinds.{kind_name}
 use Rattle.basics.specs.declared.fault.Fault.{Fault}
 
@@ -34,4 +34,4 @@ counts_line tuples explicit points =
 
 -- the text went from old to new by a line, which is cut short only where the count of faults rose
 abbrev pub AddsLine : Type 0 → List ℕ → List ℕ → List ℕ → Type 0
-AddsLine risen line old new = (new ≡ old ++ line) ⊎ (risen × IsFront old new × IsFront new (old ++ line))
+AddsLine risen line old new = (new ≡ old ++ line) ⊎ (risen × IsPrefix old new × IsPrefix new (old ++ line))

@@ -9,8 +9,8 @@ use Rattle.glif.specs.Limits.{IsWithinLimits}
 use Rattle.glif.specs.declared.shape.Outline.{Outline}
 use Rattle.glif.specs.declared.shape.Drawing.{Drawing}
 use Rattle.region_support.specs.MasterOrder.{AreMasters, axes_of}
-use Rattle.region_support.specs.Sorting.{model_fault, order_of, places_at}
-use Rattle.region_support.specs.Regions.{regions_of, AreNormalisedPlaces}
+use Rattle.region_support.specs.Sorting.{model_fault, order_of, locations_at}
+use Rattle.region_support.specs.Regions.{regions_of, AreNormalisedLocations}
 use Rattle.region_support.specs.declared.sorting.ModelStop.{ModelStop}
 use Rattle.region_support.specs.declared.sorting.ModelStop.TheVariants as model
 use Rattle.compat.specs.Differences.{outline_difference}
@@ -18,7 +18,7 @@ use Rattle.compat.specs.declared.compared.Difference.{Difference}
 use Rattle.delta_solve.specs.GlyphModels.{AreAlike, delta_fault}
 use Rattle.delta_solve.specs.declared.model.DeltaStop.{DeltaStop}
 use Rattle.delta_solve.specs.declared.model.DeltaStop.TheVariants as delta
-use Rattle.vfb.specs.Command.{Placed, Tuples}
+use Rattle.vfb.specs.Command.{Located, Tuples}
 use Rattle.vfb.specs.Faults.{drawings_of}
 
 -- The masters of a glyph in their order, the default first: its name, which is the default's, the location of each
@@ -28,23 +28,23 @@ pub record Masters : Type 0 where
   pub locations : List (List ℤ)
   pub outlines : List Outline
 
--- ---- the places
+-- ---- the locations
 
--- a fault of the drawings' places, which has no path
-abbrev pub place_fault : Kind → ℕ → ℕ → Fault
-place_fault kind at also = record {
+-- a fault of the drawings' locations, which has no path
+abbrev pub location_fault : Kind → ℕ → ℕ → Fault
+location_fault kind at also = record {
   path = [];
   spot = record { kind = kind; item = []; at = at; also = also; first = pos 0; second = pos 0 };
 }
 
 abbrev pub order_or : Option ModelStop → List ℕ → Result (List ℕ) Fault
-order_or (Some model.NoDefault) order = Err (place_fault NoDefaultSource 0 0)
-order_or (Some (model.SameLocation first second)) order = Err (place_fault SameLocation first second)
+order_or (Some model.NoDefault) order = Err (location_fault NoDefaultSource 0 0)
+order_or (Some (model.SameLocation first second)) order = Err (location_fault SameLocation first second)
 order_or _ order = Ok order
 
 -- the numbers of the drawings in the order of masters
 abbrev pub ordered : List (List ℤ) → Result (List ℕ) Fault
-ordered places = order_or (model_fault places) (order_of places)
+ordered listed = order_or (model_fault listed) (order_of listed)
 
 -- ---- the contours
 
@@ -60,9 +60,9 @@ alike_or name path None = Ok tt
 alike_or name path (Some difference) = Err (difference_fault name path difference)
 
 -- all have contours like the default's, of as many points of the same kinds; else the first difference is refused
-abbrev pub all_alike : Drawing → List Placed → List Drawing → Result (Unit {0}) Fault
-all_alike default (placed ∷ more) (drawing ∷ others) =
-    alike_or default.name placed.path (outline_difference default.outline drawing.outline) >>= λ _. all_alike default more others
+abbrev pub all_alike : Drawing → List Located → List Drawing → Result (Unit {0}) Fault
+all_alike default (located ∷ more) (drawing ∷ others) =
+    alike_or default.name located.path (outline_difference default.outline drawing.outline) >>= λ _. all_alike default more others
 all_alike default _ _ = Ok tt
 
 -- ---- the masters
@@ -78,21 +78,21 @@ abbrev pub default_drawing : List Drawing → List ℕ → Drawing
 default_drawing drawings order = drawing_numbered drawings (slice_index_or order 0 0)
 
 abbrev pub masters_in : List (List ℤ) → List Drawing → List ℕ → Masters
-masters_in places drawings order = record {
+masters_in listed drawings order = record {
   name = (default_drawing drawings order).name;
-  locations = places_at places order;
+  locations = locations_at listed order;
   outlines = map (λ number. (drawing_numbered drawings number).outline) order;
 }
 
-abbrev pub places_of_drawings : List Placed → List (List ℤ)
-places_of_drawings placed = map (λ (one : Placed). one.at) placed
+abbrev pub locations_of_drawings : List Located → List (List ℤ)
+locations_of_drawings located = map (λ (one : Located). one.at) located
 
 -- the masters that the drawings are, as they stand
-abbrev pub gathered : List Placed → List Drawing → Result Masters Fault
-gathered placed drawings =
-    ordered (places_of_drawings placed) >>= λ order.
-    all_alike (default_drawing drawings order) placed drawings >>= λ _.
-    Ok (masters_in (places_of_drawings placed) drawings order)
+abbrev pub gathered : List Located → List Drawing → Result Masters Fault
+gathered located drawings =
+    ordered (locations_of_drawings located) >>= λ order.
+    all_alike (default_drawing drawings order) located drawings >>= λ _.
+    Ok (masters_in (locations_of_drawings located) drawings order)
 
 -- ---- the deltas
 
@@ -111,7 +111,7 @@ masters_or _ masters = Ok masters
 abbrev pub fitting : Masters → Result Masters Fault
 fitting masters = masters_or (delta_fault (regions_of masters.locations) masters.locations masters.outlines) masters
 
--- The masters of a command's glyph, or the first fault: that of the first file that has one, of the places, of the
+-- The masters of a command's glyph, or the first fault: that of the first file that has one, of the locations, of the
 -- first drawing whose contours aren't like the default's, and of the first delta that doesn't fit.
 abbrev pub masters_of : Files → Tuples → Result Masters Fault
 masters_of files command =
@@ -125,7 +125,7 @@ pub record AreGathered (masters : Masters) : Type 0 where
   pub ordered : AreMasters (axes_of masters.locations) masters.locations
   pub some_axes : 1 ≤ axes_of masters.locations
   pub few_axes : axes_of masters.locations ≤ 8
-  pub normalised : AreNormalisedPlaces masters.locations
+  pub normalised : AreNormalisedLocations masters.locations
   pub few : length masters.locations ≤ 128
   pub one_each : length masters.outlines ≡ length masters.locations
   pub within : All IsWithinLimits masters.outlines

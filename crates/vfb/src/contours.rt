@@ -1,30 +1,37 @@
 ghost use Rattle.std.specs.Prelude.{◌≡◌, length, map, IfOk, Some};
 ghost use Rattle.compat.specs.Differences.{outline_difference};
 ghost use Rattle.vfb.specs.Masters.{all_alike, difference_fault};
-ghost use Rattle.vfb.specs.Stops.{IsReadFrom, NeverFails};
+ghost use Rattle.source_files.specs.Stops.{Answers, NeverFails};
 ghost use Rattle.vfb.specs.Words.{seen};
 
-use crate::faults::{ReadStop, refuse_difference};
-use crate::words::Placed;
+use crate::faults::difference_fault;
+use crate::words::Located;
 use compat::compare;
 use glif::Drawing;
+use source_files::ReadStop;
 use std::alloc::Global;
 
 /// Tests whether every drawing has contours like the default's, of as many points of the same kinds, and refuses
 /// the first difference of the first that hasn't.
-pub(crate) fn all_alike<'a>(
+pub(crate) fn all_alike(
     alloc: Global,
     default: &Drawing,
-    placed: &[Placed<'a>],
+    located: &[Located<'_>],
     drawings: &[Drawing],
-) -> Result<(), ReadStop<'a>>
-    requires { length drawings.now ≡ length placed.now }
-    ensures alike { IsReadFrom (all_alike default.now (map seen placed.now) drawings.now) result }
+) -> Result<(), ReadStop>
+    requires { length drawings.now ≡ length located.now }
+    ensures alike { Answers (λ done. done) result (all_alike default.now (map seen located.now) drawings.now) }
     ensures never { NeverFails result }
 {
     for (index, drawing) in drawings.iter().enumerate() {
         if let Some(difference) = compare(&default.outline, &drawing.outline) {
-            return Err(refuse_difference(alloc, &default.name, placed[index].path, difference));
+            let path = located[index].path;
+            return Err(ReadStop::Refused(difference_fault(
+                alloc,
+                &default.name,
+                path,
+                difference,
+            )?));
         }
     }
     Ok(())

@@ -1,21 +1,20 @@
 ghost use Rattle.std.specs.Prelude.{◌≡◌, length, map, All, IfOk};
 ghost use Rattle.basics.specs.Reading.{Gives};
 ghost use Rattle.glif.specs.Limits.{IsWithinLimits};
-ghost use Rattle.glif.specs.Texts.{drawing_of_text};
 ghost use Rattle.glif.specs.declared.shape.Drawing.{Drawing};
-ghost use Rattle.vfb.specs.Faults.{alone, drawing_in, drawings_of, in_file, read_as};
-ghost use Rattle.vfb.specs.Stops.{StopsAt, IsReadFrom, NeverFails, Reads};
+ghost use Rattle.markup.specs.Plain.{plain};
+ghost use Rattle.source_files.specs.Stops.{Answers, Reads};
+ghost use Rattle.vfb.specs.Faults.{alone, drawing_at, drawings_of, drawn_alone};
+ghost use Rattle.vfb.specs.Stops.{StopsAt};
 ghost use Rattle.vfb.specs.Words.{seen};
 
-use crate::faults::{ReadStop, refuse_absent, refuse_length, refuse_spot};
-use crate::words::Placed;
-use glif::Drawing;
+use crate::words::Located;
 use basics::{Kind, Seq, Stop, stop_at};
-use outside::{Found, ReadError, Sources};
+use glif::Drawing;
+use markup::Element;
+use outside::Sources;
+use source_files::{ReadStop, in_file, read_tree};
 use std::alloc::Global;
-
-/// The most bytes of one file that are read.
-const FILE_LIMIT: usize = 67_108_864;
 
 /// The drawing, if it has no components: it stands alone, so that they would draw nothing.
 fn alone(alloc: Global, drawing: Drawing) -> Result<Drawing, Stop>
@@ -29,75 +28,44 @@ fn alone(alloc: Global, drawing: Drawing) -> Result<Drawing, Stop>
     }
 }
 
-/// The drawing that a text is as a GLIF.
-fn drawing_of_text(alloc: Global, text: &[u8]) -> Result<Drawing, Stop>
-    ensures gives { Gives (λ drawing. drawing) result (drawing_of_text text.now) }
+/// The drawing that a tree is as a GLIF, if it has no components.
+#[tactic(auto, unfolding(crate::specs::Faults::drawn_alone))]
+fn drawn_alone(alloc: Global, tree: &Element) -> Result<Drawing, Stop>
+    ensures gives { Gives (λ drawing. drawing) result (drawn_alone (plain tree.now)) }
     ensures within { IfOk result (λ drawing. IsWithinLimits drawing.outline) }
 {
-    let tree = markup::read(alloc, text)?;
-    let drawing = glif::read(alloc, &tree)?;
-    Ok(drawing)
+    let drawing = glif::read(alloc, tree)?;
+    alone(alloc, drawing)
 }
 
-/// The drawing that a text is as a GLIF, if it has no components.
-#[tactic(auto, unfolding(crate::specs::Faults::read_as))]
-fn read_text(alloc: Global, text: &[u8]) -> Result<Drawing, Stop>
-    ensures gives { Gives (λ drawing. drawing) result (read_as text.now) }
-    ensures within { IfOk result (λ drawing. IsWithinLimits drawing.outline) }
-{
-    let drawing = drawing_of_text(alloc, text)?;
-    let drawing = alone(alloc, drawing)?;
-    Ok(drawing)
-}
-
-/// The drawing that the bytes of the file at `path` are.
-fn drawing_of<'a>(alloc: Global, path: &str, bytes: &[u8]) -> Result<Drawing, ReadStop<'a>>
-    ensures reads { IsReadFrom (in_file path.now (read_as bytes.now)) result }
-    ensures never { NeverFails result }
-    ensures within { IfOk result (λ drawing. IsWithinLimits drawing.outline) }
-{
-    match read_text(alloc, bytes) {
-        Ok(drawing) => Ok(drawing),
-        Err(Stop::At(spot)) => Err(refuse_spot(alloc, path, spot)),
-        Err(Stop::NoMemory) => Err(ReadStop::NoMemory),
-    }
-}
-
-/// Reads the drawing of the file at `path`.
-fn read_drawing<'a, S: Sources>(
+/// Reads a drawing that the words location.
+#[tactic(auto, using(source_files::proofs::InFile::answers_in_file, source_files::proofs::InFile::kept_in_file), unfolding(crate::specs::Faults::drawing_at))]
+fn read_drawing<S: Sources>(
     alloc: Global,
-    path: &'a str,
+    located: &Located<'_>,
     sources: &mut S,
-) -> Result<Drawing, ReadStop<'a>>
-    ensures reads { Reads S.tells S.files S.faults S.is_sure sources.old sources.new (λ named. named ≡ path.now) (IsReadFrom (drawing_in (S.files sources.old path.now) path.now) result) result }
+) -> Result<Drawing, ReadStop>
+    ensures reads { Reads (S.state sources.old) (S.state sources.new) (λ named. named ≡ located.now.path.now) (Answers (λ drawing. drawing) result (drawing_at (S.state sources.old).files (seen located.now))) result }
     ensures within { IfOk result (λ drawing. IsWithinLimits drawing.outline) }
 {
-    match sources.read(alloc, path, FILE_LIMIT) {
-        Ok(Found::Bytes(bytes)) => drawing_of(alloc, path, bytes.as_slice()),
-        Ok(Found::Absent) => Err(refuse_absent(alloc, path)),
-        Ok(Found::TooLong(size)) => Err(refuse_length(alloc, path, size)),
-        Err(ReadError::Failed) => Err(ReadStop::ReadFault(path)),
-        Err(ReadError::NoMemory) => Err(ReadStop::NoMemory),
-    }
+    let tree = read_tree(alloc, sources, located.path)?;
+    in_file(alloc, located.path, drawn_alone(alloc, &tree))
 }
 
-/// Reads the drawings, one for each that the words place, in the order of the words. A file with a
+/// Reads the drawings, one for each that the words location, in the order of the words. A file with a
 /// fault is answered before the next one is read.
-pub(crate) fn read_drawings<'a, S: Sources>(
+pub(crate) fn read_drawings<S: Sources>(
     alloc: Global,
-    placed: &[Placed<'a>],
+    located: &[Located<'_>],
     sources: &mut S,
-) -> Result<Seq<Drawing>, ReadStop<'a>>
-    ensures reads { Reads S.tells S.files S.faults S.is_sure sources.old sources.new (StopsAt (S.tells sources.old) (S.files sources.old) (map seen placed.now)) (IsReadFrom (drawings_of (S.files sources.old) (map seen placed.now)) result) result }
-    ensures one_each { IfOk result (λ drawings. length drawings ≡ length placed.now) }
+) -> Result<Seq<Drawing>, ReadStop>
+    ensures reads { Reads (S.state sources.old) (S.state sources.new) (StopsAt (S.state sources.old).tells (S.state sources.old).files (map seen located.now)) (Answers (λ drawings. drawings) result (drawings_of (S.state sources.old).files (map seen located.now))) result }
+    ensures one_each { IfOk result (λ drawings. length drawings ≡ length located.now) }
     ensures within { IfOk result (All (λ (drawing : Drawing). IsWithinLimits drawing.outline)) }
 {
     let mut drawings = Seq::new(alloc);
-    for one in placed {
-        let drawing = match read_drawing(alloc, one.path, sources) {
-            Ok(drawing) => drawing,
-            Err(stop) => return Err(stop),
-        };
+    for one in located {
+        let drawing = read_drawing(alloc, one, sources)?;
         drawings.push(drawing)?;
     }
     Ok(drawings)

@@ -2,11 +2,11 @@ ghost use Rattle.std.specs.Prelude.{◌≡◌};
 ghost use Rattle.outside.specs.Said.{Says};
 ghost use Rattle.vfb.specs.Ending.{ending_of, status_of, ending_line};
 
-use crate::faults::ReadStop;
 use crate::lines::{say_no_memory, say_read_fault, say_refused, say_usage, say_write_fault};
 use crate::status::Status;
-use basics::Fault;
+use basics::{Fault, Name};
 use outside::{Failed, Say};
+use source_files::ReadStop;
 
 /// How a command ended, with what the line said of it names.
 #[derive(Drop)]
@@ -18,7 +18,7 @@ pub(crate) enum Ending<'a> {
     /// The words are those of no command.
     Usage,
     /// The file at this path could not be read.
-    ReadFault(&'a str),
+    ReadFault(Name),
     /// The file at this path could not be written; a dash stands for the text said.
     WriteFault(&'a str),
     /// Memory ran out.
@@ -27,8 +27,8 @@ pub(crate) enum Ending<'a> {
 
 impl<'a> Ending<'a> {
     /// How a command ends whose drawings could not be had.
-    pub(crate) fn from_stop(stop: ReadStop<'a>) -> Ending<'a>
-        ensures { result ≡ ending_of stop.entry }
+    pub(crate) fn from_stop(stop: ReadStop) -> Ending<'a>
+        ensures { result ≡ ending_of stop }
     {
         match stop {
             ReadStop::Refused(fault) => Ending::Refused(fault),
@@ -54,13 +54,13 @@ impl<'a> Ending<'a> {
 
 /// Says how a command ended, where the work isn't done.
 pub(crate) fn say_ending<T: Say>(say: &mut T, ending: &Ending<'_>) -> Result<(), Failed>
-    ensures { Says T.tells T.said T.faults T.is_sure T.room say.old say.new (ending_line ending.now) result }
+    ensures { Says (T.state say.old) (T.state say.new) (ending_line ending.now) result }
 {
     match ending {
         Ending::Done => Ok(()),
         Ending::Refused(fault) => say_refused(say, fault),
         Ending::Usage => say_usage(say),
-        Ending::ReadFault(path) => say_read_fault(say, path),
+        Ending::ReadFault(path) => say_read_fault(say, path.as_str()),
         Ending::WriteFault(path) => say_write_fault(say, path),
         Ending::NoMemory => say_no_memory(say),
     }

@@ -1,29 +1,31 @@
 ghost use Rattle.std.specs.Prelude.{◌≡◌, ◌+◌, map, All, IfOk};
 ghost use Rattle.basics.specs.Reading.{GivesBy};
 ghost use Rattle.region_support.specs.MasterOrder.{axes_of};
-ghost use Rattle.region_support.specs.Places.{places_of, regions_in};
+ghost use Rattle.region_support.specs.Coordinates.{coordinates_of, regions_in};
 ghost use Rattle.delta_solve.specs.GlyphModels.{IsModelOf, IsTupleWithin};
 ghost use Rattle.delta_solve.specs.declared.model.GlyphModel.{GlyphModel};
 ghost use Rattle.glyph_variations.specs.Conditions.{AreGlyphTuples, point_count};
 ghost use Rattle.vfb.specs.Glyph.{regions};
-ghost use Rattle.vfb.specs.Making.{ArePlaced, Makes, shown};
+ghost use Rattle.vfb.specs.Making.{AreLocated, MakesData, shown};
 ghost use Rattle.vfb.specs.Masters.{AreGathered, fitting, masters_of};
-ghost use Rattle.vfb.specs.Stops.{NeverFails, Reads, StopsAt, StopsBy};
-ghost use Rattle.vfb.specs.Words.{asked, seen};
+ghost use Rattle.source_files.specs.Stops.{NeverFails, Reads, StopsBy};
+ghost use Rattle.vfb.specs.Stops.{StopsAt};
+ghost use Rattle.vfb.specs.Words.{asked_tuples, seen};
 
 use crate::drawings::read_drawings;
-use crate::faults::{ReadStop, refuse_delta};
+use crate::faults::range_fault;
 use crate::masters::{Masters, gather};
-use crate::words::Command;
+use crate::words::Tuples;
+use basics::Seq;
 use delta_solve::{DeltaStop, GlyphModel, solve_glyph, table};
 use glyph_variations::variations;
 use gvar_table::glyph_data;
-use basics::Seq;
 use outside::Sources;
 use region_support::{Support, boxes};
+use source_files::ReadStop;
 use std::alloc::Global;
 
-/// The phantom points that a glyph has behind its outline's (OpenType, "glyf").
+/// The phantom points that a glyph has after its outline's (OpenType, "glyf").
 const PHANTOM_POINTS: u16 = 4;
 
 /// The variation data of a glyph, and what they hold.
@@ -41,7 +43,7 @@ pub(crate) struct GlyphData {
 
 /// How many axes the masters' locations have.
 fn axis_count(masters: &Masters) -> u32
-    ensures { result ≡ axes_of (places_of masters.now.locations) }
+    ensures { result ≡ axes_of (coordinates_of masters.now.locations) }
 {
     match masters.locations.as_slice() {
         [at, ..] => at.len() as u32,
@@ -61,16 +63,16 @@ fn all_count(model: &GlyphModel) -> u16
 }
 
 /// The model of masters with these regions, or the first delta that doesn't fit 16 bits.
-fn model_of<'a>(
+fn model_of(
     alloc: Global,
     masters: &Masters,
     supports: &Seq<Support>,
-) -> Result<GlyphModel, ReadStop<'a>>
+) -> Result<GlyphModel, ReadStop>
     requires gathered { AreGathered (shown masters.now) }
     requires regions { regions_in supports.now ≡ regions (shown masters.now) }
     ensures fits { GivesBy StopsBy (λ (_ : GlyphModel). shown masters.now) result (fitting (shown masters.now)) }
     ensures never { NeverFails result }
-    ensures model { IfOk result (IsModelOf (regions (shown masters.now)) (places_of masters.now.locations) masters.now.outlines) }
+    ensures model { IfOk result (IsModelOf (regions (shown masters.now)) (coordinates_of masters.now.locations) masters.now.outlines) }
     ensures within { IfOk result (λ model. All IsTupleWithin model.tuples) }
 {
     let table = table(alloc, supports, &masters.locations)?;
@@ -83,22 +85,19 @@ fn model_of<'a>(
                 y,
                 value,
             },
-        ) => Err(refuse_delta(alloc, &masters.name, master, point, y, value)),
+        ) => Err(ReadStop::Refused(range_fault(alloc, &masters.name, master, point, y, value)?)),
         Err(DeltaStop::NoMemory) => Err(ReadStop::NoMemory),
     }
 }
 
 /// The variation data of the masters.
-fn data_of<'a>(alloc: Global, masters: &Masters) -> Result<GlyphData, ReadStop<'a>>
+fn data_of(alloc: Global, masters: &Masters) -> Result<GlyphData, ReadStop>
     requires { AreGathered (shown masters.now) }
-    ensures makes { Makes (fitting (shown masters.now)) result }
+    ensures makes { MakesData (fitting (shown masters.now)) result }
     ensures never { NeverFails result }
 {
     let supports = boxes(alloc, &masters.locations)?;
-    let model = match model_of(alloc, masters, &supports) {
-        Ok(model) => model,
-        Err(stop) => return Err(stop),
-    };
+    let model = model_of(alloc, masters, &supports)?;
     let found = variations(alloc, &model, &supports)?;
     let bytes = glyph_data(alloc, axis_count(masters), all_count(&model), &found.tuples)?;
     Ok(GlyphData {
@@ -110,17 +109,16 @@ fn data_of<'a>(alloc: Global, masters: &Masters) -> Result<GlyphData, ReadStop<'
 }
 
 /// Reads the drawings of a command, and makes the variation data of the glyph whose masters they are.
-pub(crate) fn make_data<'a, S: Sources>(
+pub(crate) fn make_data<S: Sources>(
     alloc: Global,
-    command: &Command<'a>,
+    command: &Tuples<'_>,
     sources: &mut S,
-) -> Result<GlyphData, ReadStop<'a>>
-    requires { ArePlaced (map seen command.now.drawings.items) }
-    ensures { Reads S.tells S.files S.faults S.is_sure sources.old sources.new (StopsAt (S.tells sources.old) (S.files sources.old) (map seen command.now.drawings.items)) (Makes (masters_of (S.files sources.old) (asked command.now)) result) result }
+) -> Result<GlyphData, ReadStop>
+    requires { AreLocated (map seen command.now.drawings.items) }
+    ensures { Reads (S.state sources.old) (S.state sources.new) (StopsAt (S.state sources.old).tells (S.state sources.old).files (map seen command.now.drawings.items)) (MakesData (masters_of (S.state sources.old).files (asked_tuples command.now)) result) result }
 {
-    let placed = command.drawings.as_slice();
-    let drawings = read_drawings(alloc, placed, sources)?;
-    let masters = gather(alloc, placed, drawings.as_slice())?;
-    let data = data_of(alloc, &masters)?;
-    Ok(data)
+    let located = command.drawings.as_slice();
+    let drawings = read_drawings(alloc, located, sources)?;
+    let masters = gather(alloc, located, drawings.as_slice())?;
+    data_of(alloc, &masters)
 }

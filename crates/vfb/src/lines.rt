@@ -1,6 +1,6 @@
 ghost use Rattle.std.specs.Prelude.{◌≡◌};
 ghost use Rattle.outside.specs.Said.{Says};
-ghost use Rattle.vfb.specs.Lines.{or_dash, refused_line, usage_line, read_fault_line, write_fault_line, no_memory_line, counts_line};
+ghost use Rattle.vfb.specs.Lines.{or_dash, refused_line, usage_line, read_fault_line, write_fault_line, no_memory_line};
 
 use basics::Fault;
 use outside::{Failed, Piece, Say, say_all};
@@ -14,7 +14,7 @@ fn or_dash(text: &str) -> &str
 
 /// Says which fault the sources have.
 pub(crate) fn say_refused<T: Say>(say: &mut T, fault: &Fault) -> Result<(), Failed>
-    ensures { Says T.tells T.said T.faults T.is_sure T.room say.old say.new (refused_line fault.now) result }
+    ensures { Says (T.state say.old) (T.state say.new) (refused_line fault.now) result }
 {
     say_all(
         say,
@@ -40,14 +40,14 @@ pub(crate) fn say_refused<T: Say>(say: &mut T, fault: &Fault) -> Result<(), Fail
 
 /// Says that the words are those of no command.
 pub(crate) fn say_usage<T: Say>(say: &mut T) -> Result<(), Failed>
-    ensures { Says T.tells T.said T.faults T.is_sure T.room say.old say.new usage_line result }
+    ensures { Says (T.state say.old) (T.state say.new) usage_line result }
 {
     say_all(say, &[Piece::Word("usage words\n")])
 }
 
 /// Says which file could not be read.
 pub(crate) fn say_read_fault<T: Say>(say: &mut T, path: &str) -> Result<(), Failed>
-    ensures { Says T.tells T.said T.faults T.is_sure T.room say.old say.new (read_fault_line path.now) result }
+    ensures { Says (T.state say.old) (T.state say.new) (read_fault_line path.now) result }
 {
     say_all(
         say,
@@ -61,7 +61,7 @@ pub(crate) fn say_read_fault<T: Say>(say: &mut T, path: &str) -> Result<(), Fail
 
 /// Says which file could not be written.
 pub(crate) fn say_write_fault<T: Say>(say: &mut T, path: &str) -> Result<(), Failed>
-    ensures { Says T.tells T.said T.faults T.is_sure T.room say.old say.new (write_fault_line path.now) result }
+    ensures { Says (T.state say.old) (T.state say.new) (write_fault_line path.now) result }
 {
     say_all(
         say,
@@ -75,30 +75,7 @@ pub(crate) fn say_write_fault<T: Say>(say: &mut T, path: &str) -> Result<(), Fai
 
 /// Says that memory ran out.
 pub(crate) fn say_no_memory<T: Say>(say: &mut T) -> Result<(), Failed>
-    ensures { Says T.tells T.said T.faults T.is_sure T.room say.old say.new no_memory_line result }
+    ensures { Says (T.state say.old) (T.state say.new) no_memory_line result }
 {
     say_all(say, &[Piece::Word("no memory\n")])
-}
-
-/// Says how many tuples were written, how many explicit points they have, and among how many points.
-pub(crate) fn say_counts<T: Say>(
-    say: &mut T,
-    tuples: u64,
-    explicit: u64,
-    points: u64,
-) -> Result<(), Failed>
-    ensures { Says T.tells T.said T.faults T.is_sure T.room say.old say.new (counts_line tuples explicit points) result }
-{
-    say_all(
-        say,
-        &[
-            Piece::Word("tuples "),
-            Piece::Count(tuples),
-            Piece::Word(" explicit "),
-            Piece::Count(explicit),
-            Piece::Word(" of "),
-            Piece::Count(points),
-            Piece::Word("\n"),
-        ],
-    )
 }

@@ -4,19 +4,20 @@ ghost use Rattle.glif.specs.Limits.{IsWithinLimits};
 ghost use Rattle.glif.specs.declared.shape.Drawing.{Drawing};
 ghost use Rattle.arrayvec.specs.ArrayVec.{array_vec_len};
 ghost use Rattle.region_support.specs.MasterOrder.{axes_of};
-ghost use Rattle.region_support.specs.Places.{places_of};
+ghost use Rattle.region_support.specs.Coordinates.{coordinates_of};
 ghost use Rattle.region_support.specs.Sorting.{IsOrder};
-ghost use Rattle.vfb.specs.Making.{ArePlaced, shown};
-ghost use Rattle.vfb.specs.Masters.{AreGathered, drawing_numbered, gathered, masters_in, ordered, places_of_drawings};
-ghost use Rattle.vfb.specs.Stops.{StopsBy, IsReadFrom, NeverFails};
+ghost use Rattle.vfb.specs.Making.{AreLocated, shown};
+ghost use Rattle.vfb.specs.Masters.{AreGathered, drawing_numbered, gathered, masters_in, ordered, locations_of_drawings};
+ghost use Rattle.source_files.specs.Stops.{Answers, StopsBy, NeverFails};
 ghost use Rattle.vfb.specs.Words.{seen};
 
 use crate::contours::all_alike;
-use crate::faults::{ReadStop, refuse_places};
-use crate::words::Placed;
-use glif::{Drawing, Outline, Point};
+use crate::faults::location_fault;
+use crate::words::Located;
 use basics::{Kind, Name, NoMemory, Seq};
+use glif::{Drawing, Outline, Point};
 use region_support::{Location, ModelStop, in_order, order};
+use source_files::ReadStop;
 use std::alloc::Global;
 
 /// The masters of a glyph in their order, the default first.
@@ -30,37 +31,42 @@ pub(crate) struct Masters {
     pub(crate) outlines: Seq<Outline>,
 }
 
-/// An equal place of its own.
-fn copy_place(at: &Location) -> Result<Location, NoMemory>
+/// An equal location of its own.
+fn copy_location(at: &Location) -> Result<Location, NoMemory>
     ensures { IfOk result (λ copy. copy.items ≡ at.now.items) }
 {
     Ok(at.clone()?)
 }
 
 /// Where the drawings stand, in the order of the words.
-fn places_of(alloc: Global, placed: &[Placed<'_>]) -> Result<Seq<Location>, NoMemory>
-    ensures { IfOk result (λ places. places_of places ≡ places_of_drawings (map seen placed.now)) }
+fn locations_of(alloc: Global, located: &[Located<'_>]) -> Result<Seq<Location>, NoMemory>
+    ensures { IfOk result (λ listed. coordinates_of listed ≡ locations_of_drawings (map seen located.now)) }
 {
-    let mut places = Vec::new(alloc);
-    for one in placed {
-        places.push(copy_place(&one.at)?)?;
+    let mut listed = Vec::new(alloc);
+    for one in located {
+        listed.push(copy_location(&one.at)?)?;
     }
-    Ok(Seq::from_vec(places))
+    Ok(Seq::from_vec(listed))
 }
 
-/// The numbers of the drawings at these places, in the order of masters.
-fn ordered<'a>(alloc: Global, places: &Seq<Location>) -> Result<Seq<u32>, ReadStop<'a>>
-    requires lengths { All (λ at. array_vec_len at ≡ axes_of (places_of places.now)) places.now }
-    requires few { length places.now ≤ 128 }
-    ensures order { IsReadFrom (ordered (places_of places.now)) result }
+/// The numbers of the drawings at these locations, in the order of masters.
+fn ordered(alloc: Global, listed: &Seq<Location>) -> Result<Seq<u32>, ReadStop>
+    requires lengths { All (λ at. array_vec_len at ≡ axes_of (coordinates_of listed.now)) listed.now }
+    requires few { length listed.now ≤ 128 }
+    ensures order { Answers (λ order. order) result (ordered (coordinates_of listed.now)) }
     ensures never { NeverFails result }
-    ensures masters { IfOk result (IsOrder (places_of places.now)) }
+    ensures masters { IfOk result (IsOrder (coordinates_of listed.now)) }
 {
-    match order(alloc, places) {
+    match order(alloc, listed) {
         Ok(order) => Ok(order),
-        Err(ModelStop::NoDefault) => Err(refuse_places(alloc, Kind::NoDefaultSource, 0, 0)),
+        Err(ModelStop::NoDefault) => Err(ReadStop::Refused(location_fault(
+            alloc,
+            Kind::NoDefaultSource,
+            0,
+            0,
+        )?)),
         Err(ModelStop::SameLocation(first, second)) => {
-            Err(refuse_places(alloc, Kind::SameLocation, first, second))
+            Err(ReadStop::Refused(location_fault(alloc, Kind::SameLocation, first, second)?))
         }
         Err(ModelStop::NoMemory) => Err(ReadStop::NoMemory),
     }
@@ -92,18 +98,18 @@ fn outlines_in(alloc: Global, drawings: &[Drawing], order: &[u32]) -> Result<Seq
     Ok(Seq::from_vec(outlines))
 }
 
-/// The masters that the drawings at these places are, in their order.
+/// The masters that the drawings at these locations are, in their order.
 fn masters_in(
     alloc: Global,
-    places: &Seq<Location>,
+    listed: &Seq<Location>,
     drawings: &[Drawing],
     order: &Seq<u32>,
 ) -> Result<Masters, NoMemory>
-    requires one_each { length drawings.now ≡ length places.now }
-    requires order { IsOrder (places_of places.now) order.now }
-    ensures { IfOk result (λ masters. shown masters ≡ masters_in (places_of places.now) drawings.now order.now) }
+    requires one_each { length drawings.now ≡ length listed.now }
+    requires order { IsOrder (coordinates_of listed.now) order.now }
+    ensures { IfOk result (λ masters. shown masters ≡ masters_in (coordinates_of listed.now) drawings.now order.now) }
 {
-    let locations = in_order(alloc, places, order)?;
+    let locations = in_order(alloc, listed, order)?;
     let numbers = order.as_slice();
     Ok(Masters {
         name: drawings[numbers[0] as usize].name.try_copy(alloc)?,
@@ -112,27 +118,23 @@ fn masters_in(
     })
 }
 
-/// The masters that the drawings are, one for each that the words place: in their order, all with
+/// The masters that the drawings are, one for each that the words location: in their order, all with
 /// contours like the default's.
-pub(crate) fn gather<'a>(
+pub(crate) fn gather(
     alloc: Global,
-    placed: &[Placed<'a>],
+    located: &[Located<'_>],
     drawings: &[Drawing],
-) -> Result<Masters, ReadStop<'a>>
-    requires placed { ArePlaced (map seen placed.now) }
-    requires one_each { length drawings.now ≡ length placed.now }
+) -> Result<Masters, ReadStop>
+    requires located { AreLocated (map seen located.now) }
+    requires one_each { length drawings.now ≡ length located.now }
     requires within { All (λ (drawing : Drawing). IsWithinLimits drawing.outline) drawings.now }
-    ensures gathers { GivesBy StopsBy shown result (gathered (map seen placed.now) drawings.now) }
+    ensures gathers { GivesBy StopsBy shown result (gathered (map seen located.now) drawings.now) }
     ensures never { NeverFails result }
     ensures gathered { IfOk result (λ masters. AreGathered (shown masters)) }
 {
-    let places = places_of(alloc, placed)?;
-    let order = ordered(alloc, &places)?;
+    let listed = locations_of(alloc, located)?;
+    let order = ordered(alloc, &listed)?;
     let default = &drawings[order.as_slice()[0] as usize];
-    match all_alike(alloc, default, placed, drawings) {
-        Ok(()) => {}
-        Err(stop) => return Err(stop),
-    }
-    let masters = masters_in(alloc, &places, drawings, &order)?;
-    Ok(masters)
+    all_alike(alloc, default, located, drawings)?;
+    Ok(masters_in(alloc, &listed, drawings, &order)?)
 }

@@ -1,15 +1,36 @@
 ghost use Rattle.std.specs.Prelude.{◌≡◌, ℕ, ◌↔◌, ◌⊎◌, List, map, string_bytes, None};
 ghost use Rattle.outside.specs.Files.{content, HasRisen};
+ghost use Rattle.source_files.specs.Stops.{Reads};
 ghost use Rattle.vfb.specs.Command.{command_of};
+ghost use Rattle.vfb.specs.Making.{IsProper, Makes};
+ghost use Rattle.vfb.specs.Words.{asked};
+ghost use Rattle.vfb.specs.Work.{IsReadBy};
 ghost use Rattle.vfb.specs.Performing.{Performs};
-ghost use Rattle.vfb.specs.Outcome.{IsAnswer, WritesNothing, IsWritten, IsSaid, IsCut, Draws, HasMasters, LacksRoom, EndsBy};
+ghost use Rattle.vfb.specs.Outcome.{IsAnswer, WritesNothing, IsWritten, IsSaid, IsCut, Draws, HasWork, LacksRoom, EndsBy};
 
 use crate::ending::{Ending, say_ending};
+use crate::product::Product;
 use crate::status::Status;
-use crate::tuples::tuples;
-use crate::words::parse;
+use crate::tuples::make_tuples;
+use crate::words::{Command, parse};
+use crate::writing::write_product;
 use outside::{Outputs, Say, Sources};
+use source_files::ReadStop;
 use std::alloc::Global;
+
+/// Makes what a command asks for.
+fn make<'a, S: Sources>(
+    alloc: Global,
+    command: &Command<'a>,
+    sources: &mut S,
+) -> Result<Product<'a>, ReadStop>
+    requires { IsProper (asked command.now) }
+    ensures { Reads (S.state sources.old) (S.state sources.new) (IsReadBy (S.state sources.old).tells (S.state sources.old).files (asked command.now)) (Makes (S.state sources.old).files (asked command.now) result) result }
+{
+    match command {
+        Command::Tuples(command) => make_tuples(alloc, command, sources),
+    }
+}
 
 /// Performs the command that the words are, or ends with their usage where they are none.
 fn perform<'a, S: Sources, O: Outputs, T: Say>(
@@ -19,11 +40,14 @@ fn perform<'a, S: Sources, O: Outputs, T: Say>(
     outputs: &mut O,
     say: &mut T,
 ) -> Ending<'a>
-    ensures { Performs S.tells S.files S.faults S.is_sure O.tells O.files O.faults O.is_sure O.room T.tells T.said T.faults T.is_sure T.room sources.old sources.new outputs.old outputs.new say.old say.new (command_of (map string_bytes words.now.items)) result }
+    ensures { Performs (S.state sources.old) (S.state sources.new) (O.state outputs.old) (O.state outputs.new) (T.state say.old) (T.state say.new) (command_of (map string_bytes words.now.items)) result }
 {
-    match parse(words) {
-        Some(command) => tuples(alloc, &command, sources, outputs, say),
-        None => Ending::Usage,
+    let Some(command) = parse(words) else {
+        return Ending::Usage;
+    };
+    match make(alloc, &command, sources) {
+        Ok(product) => write_product(&product, outputs, say),
+        Err(stop) => Ending::from_stop(stop),
     }
 }
 
@@ -34,7 +58,7 @@ fn perform<'a, S: Sources, O: Outputs, T: Say>(
 /// A drawing is a path, `@`, and 1 to 8 coordinates with commas between, whole numbers from -16,384 to
 /// 16,384 that mean -1 to 1 (F2DOT14); all drawings have as many. The files are read in the order of the
 /// words, and a fault of one comes before the next is read. Then come the faults of the masters: no drawing
-/// at the default, two at one place, contours other than the default's, and a delta of more than 16 bits.
+/// at the default, two at one location, contours other than the default's, and a delta of more than 16 bits.
 /// All is done in memory first; then OUT is begun, the data are appended in one piece, and a line says what
 /// they hold.
 ///
@@ -55,22 +79,22 @@ pub fn run<S: Sources, O: Outputs, T: Say>(
     // The words alone decide on Usage.
     ensures usage { (result ≡ Status.Usage) ↔ (command_of (map string_bytes words.now.items) ≡ None) }
     // Where the sources tell their files: exactly which fault is refused.
-    ensures answer { S.tells sources.old → IsAnswer (command_of (map string_bytes words.now.items)) (S.files sources.old) result }
+    ensures answer { (S.state sources.old).tells → IsAnswer (command_of (map string_bytes words.now.items)) (S.state sources.old).files result }
     ensures rejected { (line : ℕ) → result ≡ Status.Rejected line → ⊥ }
     // A fault of a device comes only where its count rose in this call.
-    ensures read { result ≡ Status.ReadFault → HasRisen (S.faults sources.old) (S.faults sources.new) }
-    ensures write { result ≡ Status.WriteFault → HasRisen (O.faults outputs.old) (O.faults outputs.new) ⊎ HasRisen (T.faults say.old) (T.faults say.new) }
+    ensures read { result ≡ Status.ReadFault → HasRisen (S.state sources.old).faults (S.state sources.new).faults }
+    ensures write { result ≡ Status.WriteFault → HasRisen (O.state outputs.old).faults (O.state outputs.new).faults ⊎ HasRisen (T.state say.old).faults (T.state say.new).faults }
     // What the outside holds afterwards.
-    ensures same { S.files sources.new ≡ S.files sources.old }
-    ensures unwritten { WritesNothing result → O.files outputs.new ≡ O.files outputs.old }
-    ensures written { S.tells sources.old → O.tells outputs.old → IsWritten (command_of (map string_bytes words.now.items)) (S.files sources.old) (O.files outputs.old) (O.files outputs.new) result }
-    ensures said { S.tells sources.old → T.tells say.old → IsSaid (command_of (map string_bytes words.now.items)) (S.files sources.old) (HasRisen (T.faults say.old) (T.faults say.new)) (T.said say.old) (T.said say.new) result }
-    ensures cut { S.tells sources.old → O.tells outputs.old → T.tells say.old → result ≡ Status.WriteFault → IsCut (command_of (map string_bytes words.now.items)) (S.files sources.old) (HasRisen (T.faults say.old) (T.faults say.new)) (O.files outputs.old) (O.files outputs.new) (T.said say.old) (T.said say.new) }
+    ensures same { (S.state sources.new).files ≡ (S.state sources.old).files }
+    ensures unwritten { WritesNothing result → (O.state outputs.new).files ≡ (O.state outputs.old).files }
+    ensures written { (S.state sources.old).tells → (O.state outputs.old).tells → IsWritten (command_of (map string_bytes words.now.items)) (S.state sources.old).files (O.state outputs.old).files (O.state outputs.new).files result }
+    ensures said { (S.state sources.old).tells → (T.state say.old).tells → IsSaid (command_of (map string_bytes words.now.items)) (S.state sources.old).files (HasRisen (T.state say.old).faults (T.state say.new).faults) (T.state say.old).said (T.state say.new).said result }
+    ensures cut { (S.state sources.old).tells → (O.state outputs.old).tells → (T.state say.old).tells → result ≡ Status.WriteFault → IsCut (command_of (map string_bytes words.now.items)) (S.state sources.old).files (HasRisen (T.state say.old).faults (T.state say.new).faults) (O.state outputs.old).files (O.state outputs.new).files (T.state say.old).said (T.state say.new).said }
     // The headline: what the bytes written draw.
-    ensures draws { S.tells sources.old → O.tells outputs.old → result ≡ Status.Ok → Draws (command_of (map string_bytes words.now.items)) (S.files sources.old) (O.files outputs.new) }
+    ensures draws { (S.state sources.old).tells → (O.state outputs.old).tells → result ≡ Status.Ok → Draws (command_of (map string_bytes words.now.items)) (S.state sources.old).files (O.state outputs.new).files }
     // Nothing gives up but for memory.
-    ensures complete { S.tells sources.old → HasMasters (command_of (map string_bytes words.now.items)) (S.files sources.old) → ¬ (HasRisen (S.faults sources.old) (S.faults sources.new)) → ¬ (HasRisen (O.faults outputs.old) (O.faults outputs.new)) → ¬ (HasRisen (T.faults say.old) (T.faults say.new)) → EndsBy ⊥ result }
-    ensures complete_sure { S.tells sources.old → S.is_sure sources.old → O.tells outputs.old → O.is_sure outputs.old → T.tells say.old → T.is_sure say.old → HasMasters (command_of (map string_bytes words.now.items)) (S.files sources.old) → EndsBy (LacksRoom (command_of (map string_bytes words.now.items)) (S.files sources.old) (O.room outputs.old) (T.room say.old) (T.said say.old)) result }
+    ensures complete { (S.state sources.old).tells → HasWork (command_of (map string_bytes words.now.items)) (S.state sources.old).files → ¬ (HasRisen (S.state sources.old).faults (S.state sources.new).faults) → ¬ (HasRisen (O.state outputs.old).faults (O.state outputs.new).faults) → ¬ (HasRisen (T.state say.old).faults (T.state say.new).faults) → EndsBy ⊥ result }
+    ensures complete_sure { (S.state sources.old).tells → (S.state sources.old).is_sure → (O.state outputs.old).tells → (O.state outputs.old).is_sure → (T.state say.old).tells → (T.state say.old).is_sure → HasWork (command_of (map string_bytes words.now.items)) (S.state sources.old).files → EndsBy (LacksRoom (command_of (map string_bytes words.now.items)) (S.state sources.old).files (O.state outputs.old).room (T.state say.old).room (T.state say.old).said) result }
 {
     let ending = perform(alloc, words, sources, outputs, say);
     // A line that can't be said changes nothing.

@@ -1,47 +1,48 @@
-ghost use Rattle.std.specs.Prelude.{Some, map};
-ghost use Rattle.vfb.specs.Making.{ArePlaced};
-ghost use Rattle.vfb.specs.Performing.{Performs};
-ghost use Rattle.vfb.specs.Words.{asked, seen};
-ghost use Rattle.vfb.specs.Writing.{WritesFile};
+ghost use Rattle.std.specs.Prelude.{◌≡◌, IfOk, string_bytes};
+ghost use Rattle.source_files.specs.Stops.{Reads};
+ghost use Rattle.vfb.specs.Command.{tuples};
+ghost use Rattle.vfb.specs.Making.{AreLocated, Makes, counts_of};
+ghost use Rattle.vfb.specs.Words.{asked_tuples};
+ghost use Rattle.vfb.specs.Work.{IsReadBy};
 
-use crate::ending::Ending;
-use crate::glyph::make_data;
-use crate::lines::say_counts;
-use crate::words::Command;
-use outside::{Failed, Outputs, Say, Sources};
+use crate::glyph::{GlyphData, make_data};
+use crate::product::{File, Product};
+use crate::words::Tuples;
+use basics::NoMemory;
+use outside::Sources;
+use source_files::ReadStop;
 use std::alloc::Global;
 
-/// Writes the bytes to the path in one piece.
-fn write_file<O: Outputs>(outputs: &mut O, path: &str, bytes: &[u8]) -> Result<(), Failed>
-    ensures { WritesFile O.tells O.files O.faults O.is_sure O.room outputs.old outputs.new path.now bytes.now result }
+/// The line that tells how many tuples the data have, how many explicit points those name, and among how many.
+fn counts_of(alloc: Global, glyph: &GlyphData) -> Result<String, NoMemory>
+    ensures { IfOk result (λ text. string_bytes text ≡ counts_of glyph.now) }
 {
-    match outputs.begin(path) {
-        Ok(()) => outputs.append(bytes),
-        Err(Failed) => Err(Failed),
-    }
+    let GlyphData {
+        tuples,
+        explicit,
+        points,
+        ..
+    } = glyph;
+    Ok(format!(in alloc; "tuples {tuples} explicit {explicit} of {points}\n")?)
 }
 
-/// Writes the variation data of a command's glyph.
-pub(crate) fn tuples<'a, S: Sources, O: Outputs, T: Say>(
+/// Makes the variation data of a command's glyph: one file of one piece, and the line of their counts.
+pub(crate) fn make_tuples<'a, S: Sources>(
     alloc: Global,
-    command: &Command<'a>,
+    command: &Tuples<'a>,
     sources: &mut S,
-    outputs: &mut O,
-    say: &mut T,
-) -> Ending<'a>
-    requires { ArePlaced (map seen command.now.drawings.items) }
-    ensures { Performs S.tells S.files S.faults S.is_sure O.tells O.files O.faults O.is_sure O.room T.tells T.said T.faults T.is_sure T.room sources.old sources.new outputs.old outputs.new say.old say.new (Some (asked command.now)) result }
+) -> Result<Product<'a>, ReadStop>
+    requires { AreLocated (asked_tuples command.now).drawings }
+    ensures { Reads (S.state sources.old) (S.state sources.new) (IsReadBy (S.state sources.old).tells (S.state sources.old).files (tuples (asked_tuples command.now))) (Makes (S.state sources.old).files (tuples (asked_tuples command.now)) result) result }
 {
-    let data = match make_data(alloc, command, sources) {
-        Ok(data) => data,
-        Err(stop) => return Ending::from_stop(stop),
-    };
-    match write_file(outputs, command.out, data.bytes.as_slice()) {
-        Ok(()) => {}
-        Err(Failed) => return Ending::WriteFault(command.out),
-    }
-    match say_counts(say, data.tuples, data.explicit, data.points) {
-        Ok(()) => Ending::Done,
-        Err(Failed) => Ending::WriteFault("-"),
-    }
+    let data = make_data(alloc, command, sources)?;
+    let text = counts_of(alloc, &data)?;
+    let pieces = vec![in alloc; data.bytes]?;
+    let files = vec![in alloc;
+        File {
+            path: command.out,
+            pieces
+        },
+    ]?;
+    Ok(Product { files, text })
 }

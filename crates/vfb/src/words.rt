@@ -1,6 +1,6 @@
 ghost use Rattle.std.specs.Prelude.{◌≡◌, ◌≤◌, ◌⊎◌, [], ◌∷◌, ◌++◌, length, map, string_bytes, option_map, None, MatchOption, IsSomeAnd, nat_eq};
 ghost use Rattle.std.specs.List.{list_all};
-ghost use Rattle.vfb.specs.Command.{coordinate_of, place_of, placed_of, are_on_axes, drawings_named, command_of};
+ghost use Rattle.vfb.specs.Command.{coordinate_of, location_of, located_of, are_on_axes, drawings_named, command_of};
 ghost use Rattle.vfb.specs.Words.{seen, asked};
 
 use arrayvec::ArrayVec;
@@ -9,20 +9,27 @@ use region_support::Location;
 
 /// A drawing that the words name.
 #[derive(Default, Drop)]
-pub(crate) struct Placed<'a> {
+pub(crate) struct Located<'a> {
     /// The path of its file.
     pub(crate) path: &'a str,
     /// Where in the design space it stands.
     pub(crate) at: Location,
 }
 
-/// What the words of a call ask for.
+/// What the words of `tuples` ask for.
 #[derive(Drop)]
-pub(crate) struct Command<'a> {
+pub(crate) struct Tuples<'a> {
     /// The file to write.
     pub(crate) out: &'a str,
     /// The drawings, of which there may be so many.
-    pub(crate) drawings: ArrayVec<Placed<'a>, 128>,
+    pub(crate) drawings: ArrayVec<Located<'a>, 128>,
+}
+
+/// What the words of a call ask for.
+#[derive(Drop)]
+pub(crate) enum Command<'a> {
+    /// The variation data of a glyph.
+    Tuples(Tuples<'a>),
 }
 
 /// A coordinate from -1 to 1 in F2DOT14, as a whole number from -16,384 to 16,384.
@@ -36,7 +43,7 @@ fn coordinate_of(text: &str) -> Option<Fix<14>>
     }
 }
 
-/// Adds a coordinate to a place of fewer than eight.
+/// Adds a coordinate to a location of fewer than eight.
 fn add_coordinate(at: &mut Location, text: &str) -> Option<()>
     ensures { MatchOption result ((coordinate_of text.now ≡ None) ⊎ (length at.old.items ≡ 8)) (λ _. IsSomeAnd (coordinate_of text.now) (λ value. at.new.items ≡ at.old.items ++ value ∷ []) × (length at.new.items ≤ 8)) }
 {
@@ -48,8 +55,8 @@ fn add_coordinate(at: &mut Location, text: &str) -> Option<()>
 }
 
 /// Coordinates of at most eight axes, with commas between them.
-fn place_of(text: &str) -> Option<Location>
-    ensures { option_map (λ at. at.items) result ≡ place_of text.now }
+fn location_of(text: &str) -> Option<Location>
+    ensures { option_map (λ at. at.items) result ≡ location_of text.now }
 {
     let mut at = Location::new();
     let mut rest = text;
@@ -61,26 +68,26 @@ fn place_of(text: &str) -> Option<Location>
     Some(at)
 }
 
-/// The drawing that a word names: a path, and behind its last `@` the place.
-fn placed_of(word: &str) -> Option<Placed<'_>>
-    ensures { option_map seen result ≡ placed_of word.now }
+/// The drawing that a word names: a path, and after its last `@` the location.
+fn located_of(word: &str) -> Option<Located<'_>>
+    ensures { option_map seen result ≡ located_of word.now }
 {
-    let (path, place) = word.rsplit_once('@')?;
-    Some(Placed {
+    let (path, location) = word.rsplit_once('@')?;
+    Some(Located {
         path,
-        at: place_of(place)?,
+        at: location_of(location)?,
     })
 }
 
 /// Whether all drawings stand on so many axes.
-fn have_axes(drawings: &[Placed<'_>], axes: usize) -> bool
-    ensures { result ≡ list_all (λ placed. nat_eq (length placed.at.items) axes) drawings.now }
+fn have_axes(drawings: &[Located<'_>], axes: usize) -> bool
+    ensures { result ≡ list_all (λ located. nat_eq (length located.at.items) axes) drawings.now }
 {
-    drawings.iter().all(|placed| placed.at.len() == axes)
+    drawings.iter().all(|located| located.at.len() == axes)
 }
 
 /// Whether there are drawings, and all stand on the axes of the first.
-fn are_on_axes(drawings: &[Placed<'_>]) -> bool
+fn are_on_axes(drawings: &[Located<'_>]) -> bool
     ensures { result ≡ are_on_axes (map seen drawings.now) }
 {
     match drawings {
@@ -90,13 +97,13 @@ fn are_on_axes(drawings: &[Placed<'_>]) -> bool
 }
 
 /// The drawings that the words name, at most 128, all on the same axes.
-fn drawings_named(words: &[String]) -> Option<ArrayVec<Placed<'_>, 128>>
+fn drawings_named(words: &[String]) -> Option<ArrayVec<Located<'_>, 128>>
     ensures { option_map (λ drawings. map seen drawings.items) result ≡ drawings_named (map string_bytes words.now) }
 {
     let mut drawings = ArrayVec::new();
     for word in words {
-        let placed = placed_of(word.as_str())?;
-        match drawings.try_push(placed) {
+        let located = located_of(word.as_str())?;
+        match drawings.try_push(located) {
             Ok(()) => {}
             Err(_) => return None,
         }
@@ -113,10 +120,10 @@ pub(crate) fn parse(words: &[String]) -> Option<Command<'_>>
     ensures { option_map asked result ≡ command_of (map string_bytes words.now) }
 {
     match words {
-        [_, name, out, words @ ..] if name.as_str() == "tuples" => Some(Command {
+        [_, name, out, words @ ..] if name.as_str() == "tuples" => Some(Command::Tuples(Tuples {
             out: out.as_str(),
             drawings: drawings_named(words)?,
-        }),
+        })),
         _ => None,
     }
 }

@@ -8,14 +8,14 @@ fn before(text: &[u8], at: usize) -> &[u8] {
     text.get(..at).unwrap_or(text)
 }
 
-fn behind(text: &[u8], at: usize) -> &[u8] {
+fn beyond(text: &[u8], at: usize) -> &[u8] {
     text.get(at..).unwrap_or(&[])
 }
 
 // The first place of a mark, from a place on.
 fn find(mark: &[u8], text: &[u8], start: usize) -> Option<usize> {
     for at in start..text.len() {
-        if behind(text, at).starts_with(mark) {
+        if beyond(text, at).starts_with(mark) {
             return Some(at);
         }
     }
@@ -41,13 +41,13 @@ fn is_text(bytes: &[u8]) -> bool {
 fn after_blanks(text: &[u8]) -> &[u8] {
     for (at, byte) in text.iter().enumerate() {
         if !is_blank(*byte) {
-            return behind(text, at);
+            return beyond(text, at);
         }
     }
     &[]
 }
 
-// The name at the front, and what follows it.
+// The name at the start, and what follows it.
 fn name(text: &[u8]) -> Option<(&str, &[u8])> {
     if !is_name_start(*text.first()?) {
         return None;
@@ -58,7 +58,7 @@ fn name(text: &[u8]) -> Option<(&str, &[u8])> {
             end = at;
         }
     }
-    Some((str::from_utf8(before(text, end)).ok()?, behind(text, end)))
+    Some((str::from_utf8(before(text, end)).ok()?, beyond(text, end)))
 }
 
 // What follows a comment or an instruction.
@@ -68,12 +68,12 @@ fn after_aside(text: &[u8]) -> Option<&[u8]> {
         if find(b"--", before(text, end), 4).is_some() {
             return None;
         }
-        return Some(behind(text, end.saturating_add(3)));
+        return Some(beyond(text, end.saturating_add(3)));
     }
     if !text.starts_with(b"<?") {
         return None;
     }
-    Some(behind(text, find(b"?>", text, 2)?.saturating_add(2)))
+    Some(beyond(text, find(b"?>", text, 2)?.saturating_add(2)))
 }
 
 fn after_misc(text: &[u8]) -> &[u8] {
@@ -94,7 +94,7 @@ fn after_doctype(text: &[u8]) -> Option<&[u8]> {
     }
     for (at, byte) in text.iter().enumerate().skip(9) {
         match *byte {
-            b'>' => return Some(behind(text, at.saturating_add(1))),
+            b'>' => return Some(beyond(text, at.saturating_add(1))),
             b'<' | b'[' => return None,
             _ => {}
         }
@@ -153,12 +153,12 @@ fn write_meaning(out: &mut String, bytes: &[u8]) -> Result<bool, AllocError> {
         let Some(end) = find(b";", rest, start) else {
             return Ok(false);
         };
-        let Some(c) = character(behind(before(rest, end), start.saturating_add(1))) else {
+        let Some(c) = character(beyond(before(rest, end), start.saturating_add(1))) else {
             return Ok(false);
         };
         out.push_str(str::from_utf8(before(rest, start)).unwrap_or("?"))?;
         out.push(c)?;
-        rest = behind(rest, end.saturating_add(1));
+        rest = beyond(rest, end.saturating_add(1));
     }
     out.push_str(str::from_utf8(rest).unwrap_or("?"))?;
     Ok(true)
@@ -173,14 +173,14 @@ fn attribute(text: &[u8]) -> Option<(&str, &[u8], &[u8])> {
         return None;
     }
     let end = find(&[quote], rest, 1)?;
-    let value = behind(before(rest, end), 1);
+    let value = beyond(before(rest, end), 1);
     if find(b"<", value, 0).is_some() {
         return None;
     }
-    Some((name, value, behind(rest, end.saturating_add(1))))
+    Some((name, value, beyond(rest, end.saturating_add(1))))
 }
 
-// Writes the attributes behind a tag's name, of those with one name the first, and gives what follows.
+// Writes the attributes after a tag's name, of those with one name the first, and gives what follows.
 fn write_attributes<'a>(
     alloc: Global,
     out: &mut String,
@@ -219,7 +219,7 @@ struct Tag<'a> {
 }
 
 fn start_tag(alloc: Global, text: &[u8]) -> Result<Option<Tag<'_>>, AllocError> {
-    let Some((name, rest)) = name(behind(text, 1)) else {
+    let Some((name, rest)) = name(beyond(text, 1)) else {
         return Ok(None);
     };
     let mut attributes = String::new(alloc);
@@ -227,7 +227,7 @@ fn start_tag(alloc: Global, text: &[u8]) -> Result<Option<Tag<'_>>, AllocError> 
         return Ok(None);
     };
     let is_empty = rest.starts_with(b"/");
-    let rest = if is_empty { behind(rest, 1) } else { rest };
+    let rest = if is_empty { beyond(rest, 1) } else { rest };
     match rest {
         [b'>', rest @ ..] => Ok(Some(Tag {
             name,
@@ -286,7 +286,7 @@ fn write_element<'a>(
         } else if let Some(end) = find(b"<", rest, 0) {
             let is_right = write_meaning(out, before(rest, end))?;
             if is_right {
-                Some(behind(rest, end))
+                Some(beyond(rest, end))
             } else {
                 None
             }
@@ -301,7 +301,7 @@ fn write_element<'a>(
     Ok(None)
 }
 
-// The text behind the byte order mark.
+// The text after the byte order mark.
 fn after_mark(text: &[u8]) -> &[u8] {
     text.strip_prefix(b"\xEF\xBB\xBF").unwrap_or(text)
 }
@@ -319,7 +319,7 @@ fn tree(alloc: Global, text: &[u8]) -> Result<Option<String>, AllocError> {
     }
 }
 
-// Where the item at the front ends.
+// Where the item at the start ends.
 fn item_end(text: &[u8], is_inside: bool) -> Option<usize> {
     if text.starts_with(b"<!--") {
         return Some(find(b"-->", text, 4)?.saturating_add(3));
@@ -360,28 +360,32 @@ fn tag_end(text: &[u8]) -> Option<usize> {
 
 // The names of the open elements, and whether the root has ended and a document type has stood.
 #[derive(Drop)]
-struct Place<'a> {
+struct Context<'a> {
     names: Vec<&'a str>,
     is_rooted: bool,
     is_declared: bool,
 }
 
 // Whether a tag is of a right form and may stand here, and where the next item stands.
-fn takes_tag<'a>(alloc: Global, place: &mut Place<'a>, item: &'a [u8]) -> Result<bool, AllocError> {
+fn takes_tag<'a>(
+    alloc: Global,
+    index: &mut Context<'a>,
+    item: &'a [u8],
+) -> Result<bool, AllocError> {
     if item.starts_with(b"</") {
-        let is_right = match place.names.pop() {
+        let is_right = match index.names.pop() {
             Some(name) => matches!(after_end(name, item), Some([])),
             None => false,
         };
-        place.is_rooted = place.names.is_empty();
+        index.is_rooted = index.names.is_empty();
         return Ok(is_right);
     }
     match start_tag(alloc, item)? {
-        Some(tag) if tag.rest.is_empty() && !place.is_rooted => {
+        Some(tag) if tag.rest.is_empty() && !index.is_rooted => {
             if !tag.is_empty {
-                place.names.push(tag.name)?;
+                index.names.push(tag.name)?;
             }
-            place.is_rooted = place.names.is_empty();
+            index.is_rooted = index.names.is_empty();
             Ok(true)
         }
         _ => Ok(false),
@@ -389,18 +393,18 @@ fn takes_tag<'a>(alloc: Global, place: &mut Place<'a>, item: &'a [u8]) -> Result
 }
 
 // The same of any item.
-fn takes<'a>(alloc: Global, place: &mut Place<'a>, item: &'a [u8]) -> Result<bool, AllocError> {
-    let is_outside = place.names.is_empty();
+fn takes<'a>(alloc: Global, index: &mut Context<'a>, item: &'a [u8]) -> Result<bool, AllocError> {
+    let is_outside = index.names.is_empty();
     if !is_text(item) {
         Ok(false)
     } else if item.starts_with(b"<!--") || item.starts_with(b"<?") {
         Ok(matches!(after_aside(item), Some([])))
     } else if item.starts_with(b"<!") {
-        let may_stand = is_outside && !place.is_rooted && !place.is_declared;
-        place.is_declared = true;
+        let may_stand = is_outside && !index.is_rooted && !index.is_declared;
+        index.is_declared = true;
         Ok(may_stand && matches!(after_doctype(item), Some([])))
     } else if item.starts_with(b"<") {
-        takes_tag(alloc, place, item)
+        takes_tag(alloc, index, item)
     } else if is_outside {
         Ok(after_blanks(item).is_empty())
     } else {
@@ -410,7 +414,7 @@ fn takes<'a>(alloc: Global, place: &mut Place<'a>, item: &'a [u8]) -> Result<boo
 
 // The kind and the place of the fault of a text without a tree.
 fn fault(alloc: Global, text: &[u8]) -> Result<(&'static str, usize), AllocError> {
-    let mut place = Place {
+    let mut index = Context {
         names: Vec::new(alloc),
         is_rooted: false,
         is_declared: false,
@@ -419,19 +423,19 @@ fn fault(alloc: Global, text: &[u8]) -> Result<(&'static str, usize), AllocError
     for _ in 0..text.len() {
         let at = text.len().saturating_sub(rest.len());
         let begins = matches!(rest, [b'<', next, ..] if is_name_start(*next));
-        if begins && place.names.len() >= 64 {
+        if begins && index.names.len() >= 64 {
             return Ok(("TooDeep", at));
         }
         if rest.is_empty() {
             break;
         }
-        let Some(end) = item_end(rest, !place.names.is_empty()) else {
+        let Some(end) = item_end(rest, !index.names.is_empty()) else {
             break;
         };
-        if !takes(alloc, &mut place, before(rest, end))? {
+        if !takes(alloc, &mut index, before(rest, end))? {
             return Ok(("BadText", at));
         }
-        rest = behind(rest, end);
+        rest = beyond(rest, end);
     }
     Ok(("Unfinished", text.len()))
 }

@@ -1,5 +1,5 @@
-use Rattle.markup_rules.proofs.Found.{tree_takes}
-use Rattle.markup_rules.proofs.Whole.{tree_again}
+use Rattle.markup_rules.proofs.SoundTexts.{tree_takes}
+use Rattle.markup_rules.proofs.CompleteTexts.{tree_again}
 use Rattle.markup_rules.proofs.tree_law.Goals as goal
 
 pub returns : goal.returns

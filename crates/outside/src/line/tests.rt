@@ -8,7 +8,7 @@ use super::*;
 use basics::Kind;
 use std::test::Fail;
 
-// A place that keeps what is said to it.
+// What keeps all that is said to it.
 #[derive(Drop)]
 struct Page {
     text: Vec<u8>,
@@ -30,7 +30,7 @@ impl Say for Page {
 }
 
 // A line whose definition lists the pieces' texts needs no proof of its own.
-fn say_place<T: Say>(say: &mut T, kind: Kind, path: &str, at: u64, first: i64) -> Result<(), Failed>
+fn say_spot<T: Say>(say: &mut T, kind: Kind, path: &str, at: u64, first: i64) -> Result<(), Failed>
     ensures { Says (T.state say.old) (T.state say.new)
         (concat (codes "at " ∷ kind_name kind ∷ codes " " ∷ path.now ∷ codes " " ∷ decimal at ∷ codes " " ∷ signed_decimal first ∷ codes "\n" ∷ [])) result }
 {
@@ -56,14 +56,14 @@ fn says_lines(rt: HostRuntime) -> Result<(), Fail> {
         text: Vec::new(rt.alloc()),
         faults: 0,
     };
-    say_place(
+    say_spot(
         &mut page,
         Kind::NotBuilt,
         "a b/ä.glif",
         18446744073709551615,
         -9223372036854775808,
     )?;
-    say_place(&mut page, Kind::MissingFile, "", 0, 7)?;
+    say_spot(&mut page, Kind::MissingFile, "", 0, 7)?;
     let text =
         "at NotBuilt a b/ä.glif 18446744073709551615 -9223372036854775808\nat MissingFile  0 7\n";
     assert_eq!(rt; page.text.as_slice(), text.as_bytes());

@@ -59,15 +59,15 @@ fn draws_the_way_between(rt: HostRuntime) -> Result<(), Fail> {
     Ok(())
 }
 
-/// The places of four masters on two axes, the last on both.
-const PLACES: [&str; 4] = ["0,0", "16384,0", "0,16384", "8192,16384"];
+/// The locations of four masters on two axes, the last on both.
+const LOCATIONS: [&str; 4] = ["0,0", "16384,0", "0,16384", "8192,16384"];
 
-/// The first coordinate of each, and in 65,536ths what is drawn at the last place: with the values 0, 1, 0
+/// The first coordinate of each, and in 65,536ths what is drawn at the last location: with the values 0, 1, 0
 /// and 1 the deltas are 0, 1, 0 and 0, since the half that is left is rounded down, and with 0 in place of
 /// the last they are 0, 1, 0 and -1.
 const HALVES: [([i32; 4], i64); 2] = [([0, 1, 0, 1], 32_768), ([0, 1, 0, 0], -32_768)];
 
-/// What is drawn at a master's place lies half a unit off at most, so that it is the master's once rounded
+/// What is drawn at a master's location lies half a unit off at most, so that it is the master's once rounded
 /// with a tie going up.
 #[test]
 fn draws_halves_at_a_master(rt: HostRuntime) -> Result<(), Fail> {
@@ -77,7 +77,7 @@ fn draws_halves_at_a_master(rt: HostRuntime) -> Result<(), Fail> {
         for x in xs {
             drawings.push(one_point(alloc, x, 0)?)?;
         }
-        let (status, _, held) = outcome(alloc, &PLACES, drawings.as_slice())?;
+        let (status, _, held) = outcome(alloc, &LOCATIONS, drawings.as_slice())?;
         assert_eq!(rt; status, 0);
         let held = held.ok_or("a file")?;
         let tuples = read_tuples(alloc, 2, 5, &Seq::new(alloc), held.as_slice())?.ok_or(

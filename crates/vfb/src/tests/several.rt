@@ -14,22 +14,22 @@ fn blank(alloc: Global, width: i32) -> Result<String, Fail> {
     )?)
 }
 
-/// The words of `tuples` for drawings at these places, the first in the file `0`, and so on.
-fn words_at(alloc: Global, places: &[&str]) -> Result<Vec<String>, Fail> {
+/// The words of `tuples` for drawings at these locations, the first in the file `0`, and so on.
+fn words_at(alloc: Global, listed: &[&str]) -> Result<Vec<String>, Fail> {
     let mut words = owned(alloc, &["vfb", "tuples", "o.bin"])?;
-    for (number, place) in places.iter().enumerate() {
-        words.push(format!(in alloc; "{number}@{place}")?)?;
+    for (number, location) in listed.iter().enumerate() {
+        words.push(format!(in alloc; "{number}@{location}")?)?;
     }
     Ok(words)
 }
 
-/// What a run over the drawings at these places says, with its status, and what `o.bin` holds.
+/// What a run over the drawings at these locations says, with its status, and what `o.bin` holds.
 pub(super) fn outcome(
     alloc: Global,
-    places: &[&str],
+    listed: &[&str],
     drawings: &[String],
 ) -> Result<(u8, Vec<u8>, Option<Vec<u8>>), Fail> {
-    let words = words_at(alloc, places)?;
+    let words = words_at(alloc, listed)?;
     let mut texts = Seq::new(alloc);
     for (number, drawing) in drawings.iter().enumerate() {
         let path = format!(in alloc; "{number}")?;
@@ -48,7 +48,7 @@ pub(super) fn outcome(
     Ok((status, said, held))
 }
 
-/// The places of the default and of the corners of two axes.
+/// The locations of the default and of the corners of two axes.
 const CORNERS: [&str; 4] = ["0,0", "16384,0", "0,16384", "16384,16384"];
 
 /// The points of a one-point glyph there, and what is refused: 16383 - (-32767) - (-32767) - 16383 = 65534.
@@ -74,15 +74,15 @@ fn refuses_deltas_of_more_than_16_bits(rt: HostRuntime) -> Result<(), Fail> {
         let (status, said, held) = outcome(alloc, &CORNERS, drawings.as_slice())?;
         assert_eq!(rt; status, 1);
         assert_eq!(rt; said.as_slice(), line.as_bytes());
-        assert!(rt; held.is_none());
+        assert_eq!(rt; held, None);
     }
     // A glyph without points: 0 - 3 * 16383, and the advance is the second phantom point.
     let mut drawings = Vec::new(alloc);
     for width in [0, 16_383, 16_383, 16_383, 0] {
         drawings.push(blank(alloc, width)?)?;
     }
-    let places = ["0,0,0", "9,0,0", "0,9,0", "0,0,9", "9,9,9"];
-    let (status, said, _) = outcome(alloc, &places, drawings.as_slice())?;
+    let listed = ["0,0,0", "9,0,0", "0,9,0", "0,0,9", "9,9,9"];
+    let (status, said, _) = outcome(alloc, &listed, drawings.as_slice())?;
     assert_eq!(rt; status, 1);
     assert_eq!(rt;
         said.as_slice(),
@@ -100,8 +100,8 @@ fn compares_contours_before_deltas(rt: HostRuntime) -> Result<(), Fail> {
         drawings.push(one_point(alloc, x, 0)?)?;
     }
     drawings.push(blank(alloc, 100)?)?;
-    let places = ["0,0", "16384,0", "0,16384", "16384,16384", "1,0"];
-    let (status, said, _) = outcome(alloc, &places, drawings.as_slice())?;
+    let listed = ["0,0", "16384,0", "0,16384", "16384,16384", "1,0"];
+    let (status, said, _) = outcome(alloc, &listed, drawings.as_slice())?;
     assert_eq!(rt; status, 1);
     assert_eq!(rt;
         said.as_slice(),

@@ -51,7 +51,7 @@ const ACCENTED: &str =
 /// The file breaks off in the x of a point, after 56 bytes.
 const BROKEN_OFF: &str = "<glyph name=\"a\" format=\"2\"><outline><contour><point x=\"1";
 
-/// A point at half a unit; its `<` stands behind 45 bytes.
+/// A point at half a unit; its `<` stands after 45 bytes.
 const HALF: &str =
     "<glyph name=\"a\" format=\"2\"><outline><contour><point x=\"12.5\" y=\"0\"/></contour></outline></glyph>";
 
@@ -128,7 +128,7 @@ const WHOLE: [Case; 13] = [
         said: "refused PointKind a.glif b 0 1 1 0\n",
         held: None,
     },
-    // A component is told before the next file is read, and behind the faults of its own.
+    // A component is told before the next file is read, and after the faults of its own.
     Case {
         words: WORDS,
         files: &[("a.glif", ACCENTED)],

@@ -5,7 +5,7 @@ use Rattle.glif.specs.declared.shape.Component.{Component}
 use Rattle.compat.specs.Names.{number_in, dangling_in}
 use Rattle.compat.proofs.names.base_numbers.Given as goal
 
-abbrev pub invariant-loop-place : goal.invariant-loop-place
-invariant-loop-place l =
-    (l.bases.items ≡ filter_map (λ (component : Component). number_in l.numbers component.base) (take l.place l.drawing.components))
-    × (position_from (λ (component : Component). is_none (number_in l.numbers component.base)) l.place (drop l.place l.drawing.components) ≡ dangling_in (number_in l.numbers) l.drawing)
+abbrev pub invariant-loop-index : goal.invariant-loop-index
+invariant-loop-index l =
+    (l.bases.items ≡ filter_map (λ (component : Component). number_in l.numbers component.base) (take l.index l.drawing.components))
+    × (position_from (λ (component : Component). is_none (number_in l.numbers component.base)) l.index (drop l.index l.drawing.components) ≡ dangling_in (number_in l.numbers) l.drawing)

@@ -1,6 +1,7 @@
-use Rattle.std.proofs.Common.{subst}
-use Rattle.compat.specs.Flats.{HasBases}
+use Rattle.std.proofs.Common.{◌≡◌, subst}
+use Rattle.compat.specs.Flats.{HasBases, IsJoined, joined_flat}
 use Rattle.compat.proofs.Made.{movable_at, one_each_at, known_at, read_references, joined_is}
+use Rattle.compat.proofs.Stopping.{if_ok_too}
 use Rattle.compat.proofs.outlines.joined_at.Goals as goal
 
 pub joined-requires-clause-known : goal.joined-requires-clause-known
@@ -21,6 +22,8 @@ joined-requires-clause-movable c =
 
 pub returns : goal.returns
 returns c =
-    joined_is c.args.drawings.now c.args.graph.now c.args.flats.now c.args.number c.index-drawings-number.result c.as_slice.result.now c.in_ok-flat.flat c.requires.references c.index-drawings-number.is
-    (read_references c.args.drawings.now c.args.graph.now c.args.number c.as_slice.result.now c.index-graph-number.result c.requires.references c.requires.known c.as_slice.ensures c.index-graph-number.is)
-    c.in_ok-flat.ensures
+    let bases = c.as_slice.result.now in
+    if_ok_too (λ flat. flat ≡ joined_flat c.args.flats.now c.index-drawings-number.result bases) (IsJoined c.args.drawings.now c.args.graph.now c.args.flats.now c.args.number) c.joined.result
+    (λ flat is. joined_is c.args.drawings.now c.args.graph.now c.args.flats.now c.args.number c.index-drawings-number.result bases flat c.requires.references c.index-drawings-number.is
+    (read_references c.args.drawings.now c.args.graph.now c.args.number bases c.index-graph-number.result c.requires.references c.requires.known c.as_slice.ensures c.index-graph-number.is)
+    is) c.joined.ensures

@@ -8,7 +8,7 @@ use Rattle.variation_rules.specs.InferredDelta.{still}
 use Rattle.variation_rules.proofs.FillingLemmas.{each_pushed}
 use Rattle.delta_solve.specs.Deltas.{next_delta}
 use Rattle.delta_solve.specs.GlyphModels.{delta_x, delta_y, first_some, misfit, point_misfits, next_x, next_y}
-use Rattle.delta_solve.specs.Outlines.{place}
+use Rattle.delta_solve.specs.Outlines.{position}
 use Rattle.delta_solve.proofs.GlyphLemmas.{fault_passed, fault_found, stop_of, x_here, y_here}
 use Rattle.delta_solve.proofs.glyph.point_deltas.Goals as goal
 
@@ -18,15 +18,15 @@ returns-in_err-delta-clause-stops c =
     let row = c.args.row.now in
     let earlier = c.args.earlier.now in
     let points = c.args.points.now in
-    let places = map place points in
+    let positions = map position points in
     let k = c.loop-point.point in
     let left = c.point_left-left.result in
-    let x_is : left.x ≡ next_x row earlier places k = c.point_left-left.ensures.x ∙ ap (λ x. next_delta row x (map (delta_x k) earlier)) (sym (x_here points k c.loop-point-test.true)) in
-    let y_is : left.y ≡ next_y row earlier places k = c.point_left-left.ensures.y ∙ ap (λ y. next_delta row y (map (delta_y k) earlier)) (sym (y_here points k c.loop-point-test.true)) in
-    let misfits = point_misfits c.args.master (next_x row earlier places) (next_y row earlier places) in
+    let x_is : left.x ≡ next_x row earlier positions k = c.point_left-left.ensures.x ∙ ap (λ x. next_delta row x (map (delta_x k) earlier)) (sym (x_here points k c.loop-point-test.true)) in
+    let y_is : left.y ≡ next_y row earlier positions k = c.point_left-left.ensures.y ∙ ap (λ y. next_delta row y (map (delta_y k) earlier)) (sym (y_here points k c.loop-point-test.true)) in
+    let misfits = point_misfits c.args.master (next_x row earlier positions) (next_y row earlier positions) in
     let own : first_some (misfits k) ≡ Some c.in_err-delta.field-0.0 =
     sym (λ i. first_some (misfit c.args.master k false (x_is i) ∷ misfit c.args.master k true (y_is i) ∷ [])) ∙ c.in_err-delta.ensures.stops in
-    rw (p.1, p.2) (fault_found misfits (length places) k _ _ (omega (arith, length-map points place)) (stop_of (first_some (misfits k)) _ own) c.loop-point.invariant.fault)
+    rw (p.1, p.2) (fault_found misfits (length positions) k _ _ (omega (arith, length-map points position)) (stop_of (first_some (misfits k)) _ own) c.loop-point.invariant.fault)
 
 -- one point more
 pub loop-point-preserved : goal.loop-point-preserved
@@ -34,20 +34,20 @@ loop-point-preserved c =
     let row = c.args.row.now in
     let earlier = c.args.earlier.now in
     let points = c.args.points.now in
-    let places = map place points in
+    let positions = map position points in
     let k = c.loop-point.point in
     let before = c.loop-point.deltas.items in
     let delta = c.in_ok-delta.delta in
     let left = c.point_left-left.result in
-    let x_is : left.x ≡ next_x row earlier places k = c.point_left-left.ensures.x ∙ ap (λ x. next_delta row x (map (delta_x k) earlier)) (sym (x_here points k c.loop-point-test.true)) in
-    let y_is : left.y ≡ next_y row earlier places k = c.point_left-left.ensures.y ∙ ap (λ y. next_delta row y (map (delta_y k) earlier)) (sym (y_here points k c.loop-point-test.true)) in
-    let misfits = point_misfits c.args.master (next_x row earlier places) (next_y row earlier places) in
+    let x_is : left.x ≡ next_x row earlier positions k = c.point_left-left.ensures.x ∙ ap (λ x. next_delta row x (map (delta_x k) earlier)) (sym (x_here points k c.loop-point-test.true)) in
+    let y_is : left.y ≡ next_y row earlier positions k = c.point_left-left.ensures.y ∙ ap (λ y. next_delta row y (map (delta_y k) earlier)) (sym (y_here points k c.loop-point-test.true)) in
+    let misfits = point_misfits c.args.master (next_x row earlier positions) (next_y row earlier positions) in
     let own : first_some (misfits k) ≡ None =
     sym (λ i. first_some (misfit c.args.master k false (x_is i) ∷ misfit c.args.master k true (y_is i) ∷ [])) ∙ c.in_ok-delta.ensures.fits in
     rw c.in_ok-push.ensures.items (record {
       count = omega (arith, length_push before delta);
-      xs = each_pushed (λ (n : ℕ) (pair : Pair). pair.x ≡ next_x row earlier places n) before delta still k c.loop-point.invariant.count c.loop-point.invariant.xs (c.in_ok-delta.ensures.x ∙ x_is);
-      ys = each_pushed (λ (n : ℕ) (pair : Pair). pair.y ≡ next_y row earlier places n) before delta still k c.loop-point.invariant.count c.loop-point.invariant.ys (c.in_ok-delta.ensures.y ∙ y_is);
+      xs = each_pushed (λ (n : ℕ) (pair : Pair). pair.x ≡ next_x row earlier positions n) before delta still k c.loop-point.invariant.count c.loop-point.invariant.xs (c.in_ok-delta.ensures.x ∙ x_is);
+      ys = each_pushed (λ (n : ℕ) (pair : Pair). pair.y ≡ next_y row earlier positions n) before delta still k c.loop-point.invariant.count c.loop-point.invariant.ys (c.in_ok-delta.ensures.y ∙ y_is);
       within = All-push AreFWords before delta c.loop-point.invariant.within c.in_ok-delta.ensures.within;
-      fault = fault_passed misfits (length places) k _ (omega (arith, length-map points place)) own c.loop-point.invariant.fault;
+      fault = fault_passed misfits (length positions) k _ (omega (arith, length-map points position)) own c.loop-point.invariant.fault;
     })

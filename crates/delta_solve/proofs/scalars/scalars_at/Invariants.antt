@@ -1,5 +1,5 @@
 use Rattle.std.proofs.Common.{◌≡◌, All, length, take}
-use Rattle.region_support.specs.Places.{regions_in}
+use Rattle.region_support.specs.Coordinates.{regions_in}
 use Rattle.delta_solve.specs.Deltas.{scalars_at}
 use Rattle.delta_solve.specs.Tables.{IsScalar}
 use Rattle.delta_solve.proofs.scalars.scalars_at.Given as goal

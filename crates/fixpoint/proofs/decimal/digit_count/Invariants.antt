@@ -3,5 +3,5 @@ use Rattle.std.specs.Char.{is_ascii_digit}
 use Rattle.fixpoint.proofs.decimal.digit_count.Given as goal
 use Rattle.basics.specs.Bytes.{run_at}
 
-abbrev pub invariant-loop-place : goal.invariant-loop-place
-invariant-loop-place l = l.place + length (run_at is_ascii_digit (drop l.place l.text)) ≡ length (run_at is_ascii_digit l.text)
+abbrev pub invariant-loop-index : goal.invariant-loop-index
+invariant-loop-index l = l.index + length (run_at is_ascii_digit (drop l.index l.text)) ≡ length (run_at is_ascii_digit l.text)

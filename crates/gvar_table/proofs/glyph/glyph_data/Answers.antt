@@ -27,9 +27,9 @@ returns-clause-written c =
     let some : 0 < length c.args.tuples.now = grind (arith, ap length same, c.if-is_empty.ensures) in
     let end : length c.args.tuples.now ≤ c.loop-tuple.tuple-index = omega (arith, c.loop-tuple-test.false, ap length same) in
     let near : 4 + length c.loop-tuple.headers.items < 2 ^ 16 = omega (arith, c.loop-tuple.invariant.short, c.loop-tuple.auto.tuple-index-end, c.requires.few, ap length same) in
-    let front = c.in_ok-put_u16.ensures.ok ∙ ap (λ n. c.new-bytes.result.items ++ word n) (ap length same) in
+    let prefix = c.in_ok-put_u16.ensures.ok ∙ ap (λ n. c.new-bytes.result.items ++ word n) (ap length same) in
     let words = c.in_ok-put_u16-2.ensures.ok ∙ ap (λ n. c.put_u16.new.out.items ++ word (4 + n)) (c.len.ensures ∙ c.loop-tuple.headers.ok.0) in
-    let spelled = data_spelled (length c.args.tuples.now) (4 + length c.loop-tuple.headers.items) _ _ _ _ _ _ _ _ _ c.new-bytes.ensures.items front words c.deref.ensures.value c.in_ok-put_bytes.ensures.ok c.deref-2.ensures.value c.in_ok-put_bytes-2.ensures.ok in
+    let spelled = data_spelled (length c.args.tuples.now) (4 + length c.loop-tuple.headers.items) _ _ _ _ _ _ _ _ _ c.new-bytes.ensures.items prefix words c.deref.ensures.value c.in_ok-put_bytes.ensures.ok c.deref-2.ensures.value c.in_ok-put_bytes-2.ensures.ok in
     all_written c.args.count c.loop-tuple.tuple-index c.args.tuples.now _ _ _ some end near c.loop-tuple.invariant.completes spelled
 
 pub returns-clause-means : goal.returns-clause-means

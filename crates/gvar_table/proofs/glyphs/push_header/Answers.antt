@@ -1,4 +1,4 @@
--- The fields stand one behind another.
+-- The fields stand one after another.
 use Rattle.std.proofs.Common.{◌+◌, ◌*◌, ap}
 use Rattle.std.proofs.lemmas.Result.{on_ok_weaker}
 use Rattle.gvar_table.proofs.TableLemmas.{header_spelled}

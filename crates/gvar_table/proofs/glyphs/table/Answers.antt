@@ -39,7 +39,7 @@ loop-i-preserved c =
     let tuples_are = c.index-glyphs-i.is ∙ ap (λ glyphs. get_or glyphs i c.index-glyphs-i.result) c.as_slice-glyphs.ensures in
     record {
       completes = next_glyph i _ c.args.counts.now c.index-glyphs-i.result c.args.glyphs.now _ _ _ _ inside within count_is tuples_are adds kept.completes;
-      room = omega (arith, kept.room, wanted_here i _ c.args.counts.now c.index-glyphs-i.result c.args.glyphs.now inside within count_is tuples_are, adds.short, ap length adds.body_behind, length-append c.loop-i.body.items adds.own);
+      room = omega (arith, kept.room, wanted_here i _ c.args.counts.now c.index-glyphs-i.result c.args.glyphs.now inside within count_is tuples_are, adds.short, ap length adds.body_after, length-append c.loop-i.body.items adds.own);
     }
 
 pub returns-clause-written : goal.returns-clause-written
@@ -47,8 +47,8 @@ returns-clause-written c =
     let no_glyphs : length c.args.glyphs.now ≤ c.loop-i.i = omega (arith, c.loop-i-test.false, ap length c.as_slice-glyphs.ensures) in
     let no_counts : length c.args.counts.now ≤ c.loop-i.i = omega (arith, no_glyphs, one_count_each c.args.axes c.args.counts.now c.args.glyphs.now c.requires.each) in
     let small : length c.loop-i.body.items < 2 ^ 32 = omega (arith, c.loop-i.invariant.room, wanted_at_first c.args.axes c.args.counts.now c.args.glyphs.now c.requires) in
-    let front = c.in_ok-push_header.ensures ∙ ap (λ glyphs. c.new-bytes.result.items ++ table_header c.args.axes (length glyphs)) c.as_slice-glyphs.ensures in
-    let spelled = table_spelled (table_header c.args.axes (length c.args.glyphs.now)) _ _ _ _ _ _ _ _ c.new-bytes.ensures.items front c.deref.ensures.value c.in_ok-put_bytes.ensures.ok c.deref-2.ensures.value c.in_ok-put_bytes-2.ensures.ok in
+    let prefix = c.in_ok-push_header.ensures ∙ ap (λ glyphs. c.new-bytes.result.items ++ table_header c.args.axes (length glyphs)) c.as_slice-glyphs.ensures in
+    let spelled = table_spelled (table_header c.args.axes (length c.args.glyphs.now)) _ _ _ _ _ _ _ _ c.new-bytes.ensures.items prefix c.deref.ensures.value c.in_ok-put_bytes.ensures.ok c.deref-2.ensures.value c.in_ok-put_bytes-2.ensures.ok in
     written_table c.args.axes c.loop-i.i c.args.counts.now c.args.glyphs.now _ _ _ no_counts no_glyphs small c.loop-i.invariant.completes spelled
 
 pub returns-clause-reads : goal.returns-clause-reads

@@ -1,4 +1,4 @@
--- The three packed lists stand one behind another.
+-- The three packed lists stand one after another.
 use Rattle.std.proofs.Common.{◌++◌, ap, ◌∙◌}
 use Rattle.gvar_table.specs.Tuples.{variation_of}
 use Rattle.gvar_table.proofs.PartLemmas.{written_part}

@@ -1,31 +1,23 @@
-use Rattle.std.proofs.Common.{◌≡◌, pos, FitsSigned, to_z-of_z, arith}
+use Rattle.std.proofs.Common.{◌≡◌, ℤ, FitsSigned, ap, subst, to_z, of_z, to_z-of_z, arith, rules}
 use Rattle.std.proofs.lemmas.Int.{ints}
+use Rattle.std.proofs.lemmas.Bool.{eqb-true, eq-eqb}
 use Rattle.std.specs.Int.{w64}
-use Rattle.variation_rules.proofs.InferredLemmas.{between_agree, between_differ}
-use Rattle.iup.proofs.BetweenLemmas.{tested_by_equal, tested_turned}
+use Rattle.variation_rules.specs.InferredDelta.{Between}
+use Rattle.variation_rules.proofs.InferredLemmas.{between_is_one}
 use Rattle.iup.proofs.between.is_between.Goals as goal
 
-pub returns-then-second-first : goal.returns-then-second-first
-returns-then-second-first c =
-    tested_turned c.args.first.at c.args.first.delta c.args.second.at c.args.second.delta c.args.point.at c.args.point.delta c.is_between_upward-then-second-first.result
-    c.is_between_upward-then-second-first.ensures
+-- a number is that of its bits
+same_number : (a b : ℤ) → FitsSigned w64 a → FitsSigned w64 b → of_z w64 a ≡ of_z w64 b → a ≡ b
+same_number a b a_fits b_fits same = simp to_z-of_z at (ap (to_z w64) same)
 
-pub returns-then-is_same : goal.returns-then-is_same
-returns-then-is_same c =
-    let first_fits : FitsSigned w64 c.args.first.delta = omega (arith, ints) in
-    let second_fits : FitsSigned w64 c.args.second.delta = omega (arith, ints) in
+-- where one delta is inferred, it is the only one
+pub returns-in-Some : goal.returns-in-Some
+returns-in-Some c =
+    let found_fits : FitsSigned w64 c.in-Some.delta = search rules in
     let point_fits : FitsSigned w64 c.args.point.delta = omega (arith, ints) in
-    let level : c.args.first.delta ≡ c.args.second.delta = simp to_z-of_z at (c.is_same.ensures.0 c.if-is_same.true) in
-    tested_by_equal c.args.first.at c.args.first.delta c.args.second.at c.args.second.delta c.args.point.at c.args.first.delta c.args.point.delta c.is_same-then-is_same.result
-    (between_agree c.args.first.at c.args.first.delta c.args.second.at c.args.second.delta c.args.point.at (omega (arith, ints)) level)
-    (simp to_z-of_z at c.is_same-then-is_same.ensures)
-
-pub returns-else-is_same : goal.returns-else-is_same
-returns-else-is_same c =
-    let first_fits : FitsSigned w64 c.args.first.delta = omega (arith, ints) in
-    let second_fits : FitsSigned w64 c.args.second.delta = omega (arith, ints) in
-    let point_fits : FitsSigned w64 c.args.point.delta = omega (arith, ints) in
-    tested_by_equal c.args.first.at c.args.first.delta c.args.second.at c.args.second.delta c.args.point.at (pos 0) c.args.point.delta c.is_same-else-is_same.result
-    (between_differ c.args.first.at c.args.first.delta c.args.second.at c.args.second.delta c.args.point.at (omega (arith, ints))
-    (λ level. let tested = c.is_same.ensures.1 (simp to_z-of_z level) in cc))
-    (simp to_z-of_z at c.is_same-else-is_same.ensures)
+    let at_fits : FitsSigned w64 c.args.point.at = omega (arith, ints) in
+    let inferred : Between c.args.first.at c.args.first.delta c.args.second.at c.args.second.delta c.args.point.at c.in-Some.delta = simp to_z-of_z at c.in-Some.ensures.value in (
+      λ holds. subst (Between c.args.first.at c.args.first.delta c.args.second.at c.args.second.delta c.args.point.at)
+          (same_number c.in-Some.delta c.args.point.delta found_fits point_fits (eqb-true _ _ holds)) inferred,
+      λ between. eq-eqb _ _ (ap (of_z w64) (between_is_one c.args.first.at c.args.first.delta c.args.second.at c.args.second.delta c.args.point.at c.in-Some.delta c.args.point.delta inferred between)),
+    )

@@ -1,50 +1,47 @@
-use Rattle.std.proofs.Common.{◌≡◌, ◌+◌, ℕ, length, get_or, sym, subst, arith}
+use Rattle.std.proofs.Common.{◌+◌, ◌-◌, ℕ, length, subst, sym, arith}
 use Rattle.iup.specs.Bounds.{Reaches}
 use Rattle.iup.proofs.ArcLemmas.{reaches_cyclic}
-use Rattle.iup_optimal.proofs.RowLemmas.{FewestBack, back_kept, back_taken, least_from_fewest_back, back_enough}
+use Rattle.iup_optimal.specs.Tables.{IsNearestEnd}
+use Rattle.iup_optimal.proofs.RowLemmas.{FewestBack, back_more, back_least}
 use Rattle.iup_optimal.proofs.row.fewest_back.Goals as goal
-use Rattle.iup_optimal.proofs.row.fewest_back.Goals.{then-through-fewest+then-reaches, else-through-fewest, else-through-fewest-via-then-through-fewest+else-reaches, else-through-fewest-via-else-through-fewest}
 
-pub loop-nearer-preserved : goal.loop-nearer-preserved
-loop-nearer-preserved c =
+pub loop-to-preserved : goal.loop-to-preserved
+loop-to-preserved c =
     let points = c.args.table.now.points.now in
     let deltas = c.args.table.now.deltas.now in
     let end = c.args.end in
-    let a = c.loop-nearer.nearer in
-    let back = c.args.back in
-    let row = c.args.row.now in
-    let k = c.loop-nearer.fewest in
-    let E : ℕ → ℕ → Type 0 = Reaches points deltas in
-    elim c.if-through-fewest.branch [
-      | then-through-fewest+then-reaches w ↦
-          let is : c.if-through-fewest.fewest ≡ get_or row a 0 + 1 = w.fewest-is in
-          let taken = back_taken E end row a back k c.requires.row (omega arith) (w.reaches.ensures.0 w.if-reaches.true) (omega arith) c.loop-nearer.invariant.found in
-          let small = c.requires.row.small a (omega arith) in
-          record { found = subst (λ (x : ℕ). FewestBack E end row (a + 1) back x) (sym is) taken; small = omega arith }
-      | else-through-fewest w ↦
-          let is : c.if-through-fewest.fewest ≡ k = w.fewest-is in
-          let kept : FewestBack E end row (a + 1) back k = elim w.else-through-fewest.branch [
-            | else-through-fewest-via-then-through-fewest+else-reaches v ↦
-                back_kept E end row a back k c.loop-nearer.invariant.found (λ edge. let tested = v.reaches.ensures.1 edge in absurd cc)
-            | else-through-fewest-via-else-through-fewest v ↦
-                back_kept E end row a back k c.loop-nearer.invariant.found (λ edge. omega arith)
-          ] in
-          record { found = subst (λ (x : ℕ). FewestBack E end row (a + 1) back x) (sym is) kept; small = omega arith }
-    ]
+    let from : ℕ = end - c.args.back in
+    let low = c.loop-to.low in
+    let to = c.in-Some.to in
+    let after = c.loop-to.invariant.after in
+    let small = c.loop-to.invariant.small in
+    let found : IsNearestEnd points deltas from low to = c.in-Some.ensures in
+    let not_before = found.not_before in
+    let more = back_more (Reaches points deltas) from end c.args.row.now low c.loop-to.fewest to c.requires.row (omega arith) c.loop-to.invariant.found after not_before (omega arith) found.reach found.nearest in
+    record {
+      found = subst (λ (k : ℕ). FewestBack (Reaches points deltas) from end c.args.row.now (to + 1) k) (sym c.min-fewest.ensures) more;
+      small = omega arith;
+      after = omega arith;
+      within = omega arith;
+    }
+
+pub returns-then-end-to-clause-fewest : goal.returns-then-end-to-clause-fewest
+returns-then-end-to-clause-fewest c =
+    let points = c.args.table.now.points.now in
+    let deltas = c.args.table.now.deltas.now in
+    let end = c.args.end in
+    let from : ℕ = end - c.args.back in
+    let found : IsNearestEnd points deltas from c.loop-to.low c.in-Some.to = c.in-Some.ensures in
+    back_least (Reaches points deltas) (length points) from end c.args.row.now c.loop-to.low c.loop-to.fewest (reaches_cyclic points deltas c.args.table.now.contour.same)
+    c.requires.row (omega arith) (omega arith) c.loop-to.invariant.found
+    (λ z low inside. found.nearest z low (omega arith))
 
 pub returns-clause-fewest : goal.returns-clause-fewest
 returns-clause-fewest c =
     let points = c.args.table.now.points.now in
     let deltas = c.args.table.now.deltas.now in
-    least_from_fewest_back (Reaches points deltas) (length points) c.args.end c.args.row.now c.loop-nearer.nearer c.args.back c.loop-nearer.fewest
-    (reaches_cyclic points deltas c.args.table.now.contour.same) c.requires.row c.requires.back c.requires.some (omega arith) (omega arith) c.loop-nearer.invariant.found
-
-pub returns-then-nearer-gt0-clause-fewest : goal.returns-then-nearer-gt0-clause-fewest
-returns-then-nearer-gt0-clause-fewest c =
-    let points = c.args.table.now.points.now in
-    let deltas = c.args.table.now.deltas.now in
-    let row = c.args.row.now in
-    let k = c.loop-nearer.fewest in
-    least_from_fewest_back (Reaches points deltas) (length points) c.args.end row c.args.back c.args.back k
-    (reaches_cyclic points deltas c.args.table.now.contour.same) c.requires.row c.requires.back c.requires.some (omega arith) (omega arith)
-    (back_enough (Reaches points deltas) c.args.end row c.loop-nearer.nearer c.args.back k c.requires.row (omega arith) (omega arith) (omega arith) (omega arith) c.loop-nearer.invariant.found)
+    let end = c.args.end in
+    let from : ℕ = end - c.args.back in
+    back_least (Reaches points deltas) (length points) from end c.args.row.now c.loop-to.low c.loop-to.fewest (reaches_cyclic points deltas c.args.table.now.contour.same)
+    c.requires.row (omega arith) (omega arith) c.loop-to.invariant.found
+    (λ z low inside step. c.in_default.ensures z low step)

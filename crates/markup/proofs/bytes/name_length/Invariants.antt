@@ -3,5 +3,5 @@ use Rattle.markup_rules.specs.Bytes.{is_name_byte}
 use Rattle.markup.proofs.bytes.name_length.Given as goal
 use Rattle.basics.specs.Bytes.{run_at}
 
-abbrev pub invariant-loop-place : goal.invariant-loop-place
-invariant-loop-place l = l.place + length (run_at is_name_byte (drop l.place l.bytes)) ≡ length (run_at is_name_byte l.bytes)
+abbrev pub invariant-loop-index : goal.invariant-loop-index
+invariant-loop-index l = l.index + length (run_at is_name_byte (drop l.index l.bytes)) ≡ length (run_at is_name_byte l.bytes)

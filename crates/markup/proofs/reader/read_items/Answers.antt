@@ -4,7 +4,6 @@ use Rattle.basics.specs.Reading.{Gives}
 use Rattle.markup.specs.Plain.{plain}
 use Rattle.markup_rules.proofs.Steps.{rest_from, rest_begins, rest_done}
 use Rattle.markup.proofs.Loops.{goes_on, fails_so, is_shorter}
-use Rattle.markup.specs.Views.{item_view}
 use Rattle.markup.specs.States.{state_of}
 use Rattle.markup.proofs.reader.read_items.Goals as goal
 
@@ -18,19 +17,19 @@ pub loop-rest-preserved : goal.loop-rest-preserved
 loop-rest-preserved c =
     let some : 0 < length c.loop-rest.rest.now = search rules in
     let total = length c.args.text.now in
-    let shorter = is_shorter c.loop-rest.rest.now c.item_at.result.1.now (item_view c.item_at.result.0) some c.item_at.ensures in
-    let left : length c.item_at.result.1.now ≤ total = omega (arith, shorter, c.loop-rest.invariant.0) in
-    (left, goes_on total (state_of c.loop-rest.state) (state_of c.step.new.self) c.loop-rest.rest.now c.item_at.result.1.now (item_view c.item_at.result.0) (outcome c.args.text.now) some c.item_at.ensures c.in-Ok.ensures c.loop-rest.invariant.1)
+    let shorter = is_shorter c.loop-rest.rest.now c.in-Ok.after.now some c.in-Ok.ensures.1 in
+    let left : length c.in-Ok.after.now ≤ total = omega (arith, shorter, c.loop-rest.invariant.0) in
+    (left, goes_on total (state_of c.loop-rest.state) (state_of c.step.new.self) c.loop-rest.rest.now c.in-Ok.after.now (outcome c.args.text.now) some c.in-Ok.ensures c.loop-rest.invariant.1)
 
 pub loop-rest-smaller : goal.loop-rest-smaller
 loop-rest-smaller c =
     let some : 0 < length c.loop-rest.rest.now = search rules in
-    is_shorter c.loop-rest.rest.now c.item_at.result.1.now (item_view c.item_at.result.0) some c.item_at.ensures
+    is_shorter c.loop-rest.rest.now c.in-Ok.after.now some c.in-Ok.ensures.1
 
 pub returns-in-Err : goal.returns-in-Err
 returns-in-Err c =
     let some : 0 < length c.loop-rest.rest.now = search rules in
-    fails_so (length c.args.text.now) (state_of c.loop-rest.state) c.loop-rest.rest.now c.item_at.result.1.now (item_view c.item_at.result.0) (outcome c.args.text.now) c.in-Err.stop some c.item_at.ensures c.in-Err.ensures c.loop-rest.invariant.1
+    fails_so (length c.args.text.now) (state_of c.loop-rest.state) c.loop-rest.rest.now (outcome c.args.text.now) c.in-Err.stop some c.in-Err.ensures c.loop-rest.invariant.1
 
 pub returns : goal.returns
 returns c =

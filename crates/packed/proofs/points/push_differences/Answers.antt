@@ -8,7 +8,7 @@ use Rattle.packed.proofs.points.push_differences.Goals as goal
 pub loop-rest-init : goal.loop-rest-init
 loop-rest-init c = record {
   words = All-from_get_or (λ d. d < 2 ^ 16) c.args.differences.now 0 (λ k h. omega (arith, c.type_inv.differences k));
-  completes = λ tail packed. record { added = tail; behind = refl; packs = packed };
+  completes = λ tail packed. record { added = tail; beyond = refl; packs = packed };
 }
 
 pub loop-rest-preserved : goal.loop-rest-preserved

@@ -1,10 +1,10 @@
 use Rattle.std.proofs.Common.{◌≡◌, map, fold, drop}
 use Rattle.std.specs.Int.{int_min}
-use Rattle.region_support.specs.Places.{places_of}
+use Rattle.region_support.specs.Coordinates.{coordinates_of}
 use Rattle.region_support.specs.MasterOrder.{value_on}
 use Rattle.region_support.specs.Regions.{least_on}
 use Rattle.region_support.proofs.first.least_on.Given as goal
 
 -- the masters that are left complete it
 abbrev pub invariant-loop-location : goal.invariant-loop-location
-invariant-loop-location l = fold int_min l.least (map (value_on l.axis) (places_of (drop l.location-index l.masters))) ≡ least_on (places_of l.masters) l.axis
+invariant-loop-location l = fold int_min l.least (map (value_on l.axis) (coordinates_of (drop l.location-index l.masters))) ≡ least_on (coordinates_of l.masters) l.axis

@@ -1,4 +1,4 @@
-use Rattle.region_support.proofs.PlaceLemmas.{same_axes}
+use Rattle.region_support.proofs.LocationLemmas.{same_axes}
 use Rattle.region_support.proofs.tests.stop_of.Goals as goal
 
 pub order-requires-clause-lengths : goal.order-requires-clause-lengths

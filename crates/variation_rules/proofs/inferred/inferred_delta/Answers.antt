@@ -1,4 +1,4 @@
-use Rattle.std.proofs.Common.{◌≡◌, to_z-of_z, FitsSigned, arith}
+use Rattle.std.proofs.Common.{◌≡◌, ap, to_z, of_z, to_z-of_z, FitsSigned, arith}
 use Rattle.std.proofs.lemmas.Int.{ints}
 use Rattle.std.specs.Int.{w64}
 use Rattle.variation_rules.proofs.InferredLemmas.{answer_turned, between_agree, between_differ}
@@ -10,16 +10,16 @@ returns-then-second-first-clause-value c =
     answer_turned c.args.first.at c.args.first.delta c.args.second.at c.args.second.delta c.args.at c.inferred_upward-then-second-first.result
     (simp to_z-of_z at c.inferred_upward-then-second-first.ensures.value)
 
-pub returns-then-is_same-clause-value : goal.returns-then-is_same-clause-value
-returns-then-is_same-clause-value c =
+pub returns-then-first-second-2-clause-value : goal.returns-then-first-second-2-clause-value
+returns-then-first-second-2-clause-value c =
     let first_fits : FitsSigned w64 c.args.first.delta = omega (arith, ints) in
     let second_fits : FitsSigned w64 c.args.second.delta = omega (arith, ints) in
-    let level : c.args.first.delta ≡ c.args.second.delta = simp to_z-of_z at (c.is_same.ensures.0 c.if-is_same.true) in
+    let level : c.args.first.delta ≡ c.args.second.delta = simp to_z-of_z at (ap (to_z w64) c.if-first-second-2.true) in
     simp to_z-of_z (between_agree c.args.first.at c.args.first.delta c.args.second.at c.args.second.delta c.args.at (omega (arith, ints)) level)
 
-pub returns-else-is_same-clause-value : goal.returns-else-is_same-clause-value
-returns-else-is_same-clause-value c =
+pub returns-else-first-second-2-clause-value : goal.returns-else-first-second-2-clause-value
+returns-else-first-second-2-clause-value c =
     let first_fits : FitsSigned w64 c.args.first.delta = omega (arith, ints) in
     let second_fits : FitsSigned w64 c.args.second.delta = omega (arith, ints) in
     between_differ c.args.first.at c.args.first.delta c.args.second.at c.args.second.delta c.args.at (omega (arith, ints))
-    (λ level. let tested = c.is_same.ensures.1 (simp to_z-of_z level) in cc)
+    (λ level. c.if-first-second-2.false (ap (of_z w64) level))

@@ -5,4 +5,4 @@ use Rattle.vfb.proofs.contours.all_alike.Goals as goal
 pub loop-index-preserved : goal.loop-index-preserved
 loop-index-preserved c =
     c.loop-index.invariant
-    ∙ alike_step c.args.default.now c.args.placed.now c.args.drawings.now c.loop-index.index c.index-drawings-index.result (omega arith) c.loop-index-test.true c.index-drawings-index.is (sym c.in_default.ensures.first)
+    ∙ alike_step c.args.default.now c.args.located.now c.args.drawings.now c.loop-index.index c.index-drawings-index.result (omega arith) c.loop-index-test.true c.index-drawings-index.is (sym c.in_default.ensures.first)

@@ -1,4 +1,4 @@
-use Rattle.std.proofs.Common.{◌≡◌, ◌+◌, [], ◌∙◌, ap, sym, subst, map}
+use Rattle.std.proofs.Common.{◌+◌, [], ◌∙◌, sym, subst, map}
 use Rattle.std.proofs.lemmas.List.{length-map}
 use Rattle.variation_rules.specs.TupleVariations.{MeansTuples}
 use Rattle.gvar_table.specs.Layout.{IsWritten}
@@ -11,10 +11,10 @@ use Rattle.vfb.proofs.GlyphLemmas.{are_writable, is_drawn, is_made, variable}
 use Rattle.vfb.proofs.glyph.data_of.Goals as goal
 
 pub variations-requires : goal.variations-requires
-variations-requires c = variable (shown c.args.masters.now) c.requires c.in-Ok.model c.in-Ok.ensures.model c.in-Ok.ensures.within
+variations-requires c = variable (shown c.args.masters.now) c.requires c.in_ok-model.model c.in_ok-model.ensures.model c.in_ok-model.ensures.within
 
 pub all_count-requires : goal.all_count-requires
-all_count-requires c = (variable (shown c.args.masters.now) c.requires c.in-Ok.model c.in-Ok.ensures.model c.in-Ok.ensures.within).tuples_are
+all_count-requires c = (variable (shown c.args.masters.now) c.requires c.in_ok-model.model c.in_ok-model.ensures.model c.in_ok-model.ensures.within).tuples_are
 
 pub glyph_data-requires : goal.glyph_data-requires
 glyph_data-requires c =
@@ -26,18 +26,18 @@ glyph_data-requires c =
 pub returns-clause-makes : goal.returns-clause-makes
 returns-clause-makes c =
     let masters = shown c.args.masters.now in
-    let model = c.in-Ok.ensures in
+    let model = c.in_ok-model.ensures in
     let found = c.in_ok-found.ensures in
     let written = c.in_ok-bytes.ensures in
     let tuples = map variation_of c.in_ok-found.found.tuples in
-    let are : AreVariations c.in-Ok.model.lengths (regions masters) c.in-Ok.model.tuples tuples =
-    subst (λ regions. AreVariations c.in-Ok.model.lengths regions c.in-Ok.model.tuples tuples) c.in_ok-supports.ensures.value found.tuples in (
+    let are : AreVariations c.in_ok-model.model.lengths (regions masters) c.in_ok-model.model.tuples tuples =
+    subst (λ regions. AreVariations c.in_ok-model.model.lengths regions c.in_ok-model.model.tuples tuples) c.in_ok-supports.ensures.value found.tuples in (
       masters,
       model.fits,
-      is_made masters c.requires c.in-Ok.model model.model tuples c.in_ok-bytes.bytes.items _ _ _ are
+      is_made masters c.requires c.in_ok-model.model model.model tuples c.in_ok-bytes.bytes.items _ _ _ are
           (subst (λ n. IsWritten n c.in_ok-bytes.bytes.items tuples) c.all_count.ensures written.written)
           (c.len.ensures ∙ sym (length-map c.in_ok-found.found.tuples variation_of)) found.explicit found.points,
-      is_drawn masters c.requires c.in-Ok.model model.model tuples c.in_ok-bytes.bytes.items model.within are
-          (subst (λ n. MeansTuples n (point_count c.in-Ok.model.tuples + 4) [] c.in_ok-bytes.bytes.items tuples) c.axis_count.ensures
+      is_drawn masters c.requires c.in_ok-model.model model.model tuples c.in_ok-bytes.bytes.items model.within are
+          (subst (λ n. MeansTuples n (point_count c.in_ok-model.model.tuples + 4) [] c.in_ok-bytes.bytes.items tuples) c.axis_count.ensures
           (subst (λ n. MeansTuples c.axis_count.result n [] c.in_ok-bytes.bytes.items tuples) c.all_count.ensures written.means)),
     )

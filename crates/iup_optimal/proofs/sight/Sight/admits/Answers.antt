@@ -1,33 +1,31 @@
-use Rattle.std.proofs.Common.{FitsSigned, to_z-of_z, ◌≡◌, ◌↔◌, IsTrue, pos, subst, arith}
+use Rattle.std.proofs.Common.{◌↔◌, IsTrue, pos, of_z, ap, subst, arith}
 use Rattle.std.proofs.lemmas.Int.{ints}
 use Rattle.std.specs.Int.{w64}
 use Rattle.iup_optimal.specs.declared.side.Relative.{Relative}
 use Rattle.iup_optimal.specs.Sides.{AllowsAt, Allows}
+use Rattle.iup_optimal.proofs.SideLemmas.{same_number}
 use Rattle.iup_optimal.proofs.SightLemmas.{admits_above, admits_below, admits_level, admits_still}
 use Rattle.iup_optimal.proofs.sight.Sight.admits.Goals as goal
 
 pub returns-then-relative-gt0 : goal.returns-then-relative-gt0
 returns-then-relative-gt0 c =
-    subst (λ (l : Relative). IsTrue c.allows.result ↔ AllowsAt c.args.self l) c.between-relative.ensures.value
-    (admits_above c.args.self c.between-relative.result c.allows.result (omega (arith, ints, c.between-relative.ensures.within.way.low, c.between-relative.ensures.within.way.high)) c.allows.ensures)
+    subst (λ (l : Relative). IsTrue c.allows.result ↔ AllowsAt c.args.self.now l) c.between-relative.ensures.value
+    (admits_above c.args.self.now c.between-relative.result c.allows.result (omega (arith, ints, c.between-relative.ensures.within.way.low, c.between-relative.ensures.within.way.high)) c.allows.ensures)
 
 pub returns-then-relative-lt0 : goal.returns-then-relative-lt0
 returns-then-relative-lt0 c =
-    let other = subst (λ (l : Relative). IsTrue c.allows-then-relative-lt0.result ↔ Allows c.args.self.below l) c.turned.ensures.value c.allows-then-relative-lt0.ensures in
-    subst (λ (l : Relative). IsTrue c.allows-then-relative-lt0.result ↔ AllowsAt c.args.self l) c.between-relative.ensures.value
-    (admits_below c.args.self c.between-relative.result c.allows-then-relative-lt0.result (omega (arith, ints, c.between-relative.ensures.within.way.low, c.between-relative.ensures.within.way.high)) other)
+    let other = subst (λ (l : Relative). IsTrue c.allows-then-relative-lt0.result ↔ Allows c.args.self.now.below l) c.turned.ensures.value c.allows-then-relative-lt0.ensures in
+    subst (λ (l : Relative). IsTrue c.allows-then-relative-lt0.result ↔ AllowsAt c.args.self.now l) c.between-relative.ensures.value
+    (admits_below c.args.self.now c.between-relative.result c.allows-then-relative-lt0.result (omega (arith, ints, c.between-relative.ensures.within.way.low, c.between-relative.ensures.within.way.high)) other)
 
-pub returns-then-is_same : goal.returns-then-is_same
-returns-then-is_same c =
-    let step_fits : FitsSigned w64 c.between-relative.result.step = omega (arith, ints, c.between-relative.ensures.within.step.low, c.between-relative.ensures.within.step.high) in
-    let same : c.between-relative.result.step ≡ pos 0 = simp to_z-of_z at (c.is_same.ensures.0 c.if-is_same.true) in
-    subst (λ (l : Relative). IsTrue c.args.self.level ↔ AllowsAt c.args.self l) c.between-relative.ensures.value
-    (admits_level c.args.self c.between-relative.result (omega (arith, ints, c.between-relative.ensures.within.way.low, c.between-relative.ensures.within.way.high)) same)
+pub returns-then-relative-eq0 : goal.returns-then-relative-eq0
+returns-then-relative-eq0 c =
+    let same = same_number c.between-relative.result.step (pos 0) (omega (arith, ints, c.between-relative.ensures.within.step.low, c.between-relative.ensures.within.step.high)) (omega (arith, ints)) c.if-relative-eq0.true in
+    subst (λ (l : Relative). IsTrue c.args.self.now.level ↔ AllowsAt c.args.self.now l) c.between-relative.ensures.value
+    (admits_level c.args.self.now c.between-relative.result (omega (arith, ints, c.between-relative.ensures.within.way.low, c.between-relative.ensures.within.way.high)) same)
 
-pub returns-else-is_same : goal.returns-else-is_same
-returns-else-is_same c =
-    let step_fits : FitsSigned w64 c.between-relative.result.step = omega (arith, ints, c.between-relative.ensures.within.step.low, c.between-relative.ensures.within.step.high) in
-    let tested = simp to_z-of_z at c.is_same.ensures.1 in
-    let other : c.between-relative.result.step ≡ pos 0 → ⊥ = λ equal. let holds = tested equal in cc in
-    subst (λ (l : Relative). IsTrue c.args.self.still ↔ AllowsAt c.args.self l) c.between-relative.ensures.value
-    (admits_still c.args.self c.between-relative.result (omega (arith, ints, c.between-relative.ensures.within.way.low, c.between-relative.ensures.within.way.high)) other)
+pub returns-else-relative-eq0 : goal.returns-else-relative-eq0
+returns-else-relative-eq0 c =
+    subst (λ (l : Relative). IsTrue c.args.self.now.still ↔ AllowsAt c.args.self.now l) c.between-relative.ensures.value
+    (admits_still c.args.self.now c.between-relative.result (omega (arith, ints, c.between-relative.ensures.within.way.low, c.between-relative.ensures.within.way.high))
+    (λ same. c.if-relative-eq0.false (ap (λ z. of_z w64 z) same)))

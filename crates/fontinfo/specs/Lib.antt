@@ -1,0 +1,11 @@
+pub mod Classes
+pub mod FontInfo
+pub mod KeyNames
+pub mod Keys
+pub mod Lines
+pub mod Metrics
+pub mod Naming
+pub mod Ranges
+pub mod Tables
+pub mod Texts
+pub mod Underlines

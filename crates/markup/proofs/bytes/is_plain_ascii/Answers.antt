@@ -1,0 +1,9 @@
+use Rattle.std.proofs.Common.{refl, arith}
+use Rattle.markup.specs.declared.bytes.TheConstants.{CLASS}
+use Rattle.markup.specs.Views.{is_plain_ascii}
+use Rattle.markup.proofs.Tables.{agree_below, from_table}
+use Rattle.markup.proofs.bytes.is_plain_ascii.Goals as goal
+
+pub returns : goal.returns
+unfolding agree_below
+returns c = from_table CLASS 8 is_plain_ascii c.args.byte (omega arith) refl

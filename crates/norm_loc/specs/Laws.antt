@@ -1,0 +1,18 @@
+-- What holds of the pairs of every map that has no fault.
+use Rattle.std.specs.Prelude.{◌≡◌, ℤ, Contains, None, IsTrue}
+use Rattle.norm_loc.specs.declared.follow.Direction.TheVariants.{Forward}
+use Rattle.norm_loc.specs.AvarPairs.{avar_at, avar_pairs, is_on_axis}
+use Rattle.norm_loc.specs.AxisMaps.{Mapping, design_of}
+use Rattle.norm_loc.specs.Following.{KeysRise}
+use Rattle.norm_loc.specs.MapFaults.{fault_of}
+use Rattle.norm_loc.specs.Normalising.{normalised}
+
+-- at each node on the axis the normalised input becomes the normalised output
+abbrev pub NodesAreMet : Type 0
+NodesAreMet =
+    (m : Mapping) (node : ℤ × ℤ) → fault_of m ≡ None → Contains m.nodes node → IsTrue (is_on_axis m.user node)
+    → avar_at m (normalised m.user node.0) ≡ normalised (design_of m) node.1
+
+-- the pairs rise strictly by their first numbers
+abbrev pub PairsRise : Type 0
+PairsRise = (m : Mapping) → KeysRise Forward (avar_pairs m)

@@ -1,0 +1,9 @@
+pub mod AvarPairs
+pub mod AxisMaps
+pub mod Following
+pub mod Laws
+pub mod MapFaults
+pub mod Maps
+pub mod Normalising
+pub mod Placing
+pub mod Spans

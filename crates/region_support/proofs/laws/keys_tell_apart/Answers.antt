@@ -1,5 +1,0 @@
-use Rattle.region_support.proofs.OrderLemmas as law
-use Rattle.region_support.proofs.laws.keys_tell_apart.Goals as goal
-
-pub returns : goal.returns
-returns c = law.compare_equal
