@@ -5,12 +5,13 @@ use basics::{Name, NoMemory, Stop};
 use plist::Value;
 use std::alloc::Global;
 use std::fmt::Write;
+use std::process::Abort;
 use std::test::Fail;
 
 /// Keys with their values, parted by `|`, a number after `#` and a text after `'`; and what differs from the
 /// information of a font that tells none. The defaults are worked out by hand: of 2048 units four fifths are 1638.4,
 /// a fifth 409.6, half 1024, seven tenths 1433.6, a tenth 204.8 and a twentieth 102.4.
-const READ: [(&str, &str); 45] = [
+const READ: [(&str, &str); 15] = [
     ("", ""),
     ("note='x|guidelines=!|ascender =#7", ""),
     (
@@ -47,6 +48,10 @@ const READ: [(&str, &str); 45] = [
     ("capHeight=# 650.5 ", "cap 651;"),
     ("italicAngle=#-12.5", "italic -819200;"),
     ("italicAngle=#32767.99999", "italic 2147483647;"),
+];
+
+/// The same, for later keys.
+const READ_NAMING: [(&str, &str); 15] = [
     ("familyName='Io", "family Io;"),
     ("familyName='", "family ;"),
     ("styleName='Bold", "style Bold;"),
@@ -68,6 +73,10 @@ const READ: [(&str, &str); 45] = [
     ("openTypeHheaDescender=#-300", "hhea 800 -300 0;"),
     ("openTypeHheaLineGap=#90", "hhea 800 -200 90;"),
     ("openTypeOS2TypoAscender=#700", "typo 700 -200 0;"),
+];
+
+/// The same, for later keys.
+const READ_TABLES: [(&str, &str); 15] = [
     ("openTypeOS2TypoDescender=#-310", "typo 800 -310 0;"),
     ("openTypeOS2TypoLineGap=#-1.5", "typo 800 -200 -1;"),
     ("openTypeOS2WinAscent=#1000", "win Some(1000) None;"),
@@ -86,7 +95,7 @@ const READ: [(&str, &str); 45] = [
 ];
 
 /// Keys with a fault, the first where there are two; and the fault.
-const REFUSED: [(&str, &str); 62] = [
+const REFUSED: [(&str, &str); 16] = [
     ("unitsPerEm='1000", "NotPlist  0 0 0 0"),
     ("unitsPerEm=#", "NotNumber unitsPerEm 0 0 0 0"),
     ("unitsPerEm=#15.49", "UnitsRange  0 0 15 0"),
@@ -103,6 +112,10 @@ const REFUSED: [(&str, &str); 62] = [
     ("xHeight='", "NotPlist  0 0 0 0"),
     ("xHeight=#32767.5", "NumberRange xHeight 0 0 0 0"),
     ("capHeight=#-32768", "NumberRange capHeight 0 0 0 0"),
+];
+
+/// The same, for later keys.
+const REFUSED_NAMING: [(&str, &str); 16] = [
     ("italicAngle='0", "NotPlist  0 0 0 0"),
     ("italicAngle=#north", "NotNumber italicAngle 0 0 0 0"),
     ("italicAngle=#-32768", "NumberRange italicAngle 0 0 0 0"),
@@ -125,6 +138,10 @@ const REFUSED: [(&str, &str); 62] = [
         "openTypeHheaLineGap=#a",
         "NotNumber openTypeHheaLineGap 0 0 0 0",
     ),
+];
+
+/// The same, for later keys.
+const REFUSED_TABLES: [(&str, &str); 16] = [
     ("openTypeOS2TypoAscender=!", "NotPlist  0 0 0 0"),
     (
         "openTypeOS2TypoDescender=#-32767.6",
@@ -168,6 +185,10 @@ const REFUSED: [(&str, &str); 62] = [
     ("openTypeOS2VendorID='abcde", "BadTag abcde 0 0 0 0"),
     ("openTypeOS2VendorID='\u{e9}", "BadTag \u{e9} 0 0 0 0"),
     ("openTypeOS2VendorID='a\t", "BadTag a\t 0 0 0 0"),
+];
+
+/// The same, for later keys.
+const REFUSED_LATER: [(&str, &str); 14] = [
     ("openTypeOS2VendorID='\u{7f}", "BadTag \u{7f} 0 0 0 0"),
     (
         "postscriptUnderlinePosition=#--1",
@@ -303,20 +324,56 @@ fn outcome(alloc: Global, value: &Value, plain: &Info) -> Result<String, NoMemor
     Ok(line)
 }
 
+/// Each row's dict gives this information, or is refused so.
+fn check_rows(rt: &impl Abort, alloc: Global, rows: &[(&str, &str)]) -> Result<(), Fail> {
+    let plain = Info::plain(alloc)?;
+    for (written, want) in rows {
+        let value = dict_of(alloc, written)?;
+        let found = outcome(alloc, &value, &plain)?;
+        assert_eq!(rt; found.as_str(), *want, "{written}");
+    }
+    Ok(())
+}
+
 #[test]
-fn reads_and_refuses(rt: HostRuntime) -> Result<(), Fail> {
+fn reads_metrics(rt: HostRuntime) -> Result<(), Fail> {
+    check_rows(&rt, rt.alloc(), &READ)
+}
+
+#[test]
+fn reads_naming(rt: HostRuntime) -> Result<(), Fail> {
+    check_rows(&rt, rt.alloc(), &READ_NAMING)
+}
+
+#[test]
+fn reads_tables(rt: HostRuntime) -> Result<(), Fail> {
+    check_rows(&rt, rt.alloc(), &READ_TABLES)
+}
+
+#[test]
+fn refuses_metrics(rt: HostRuntime) -> Result<(), Fail> {
+    check_rows(&rt, rt.alloc(), &REFUSED)
+}
+
+#[test]
+fn refuses_naming(rt: HostRuntime) -> Result<(), Fail> {
+    check_rows(&rt, rt.alloc(), &REFUSED_NAMING)
+}
+
+#[test]
+fn refuses_tables(rt: HostRuntime) -> Result<(), Fail> {
+    check_rows(&rt, rt.alloc(), &REFUSED_TABLES)
+}
+
+#[test]
+fn refuses_later_keys(rt: HostRuntime) -> Result<(), Fail> {
+    check_rows(&rt, rt.alloc(), &REFUSED_LATER)
+}
+
+#[test]
+fn refuses_another_value(rt: HostRuntime) -> Result<(), Fail> {
     let alloc = rt.alloc();
     let plain = Info::plain(alloc)?;
-    for (written, want) in READ {
-        let value = dict_of(alloc, written)?;
-        let found = outcome(alloc, &value, &plain)?;
-        assert_eq!(rt; found.as_str(), want, "{written}");
-    }
-    for (written, want) in REFUSED {
-        let value = dict_of(alloc, written)?;
-        let found = outcome(alloc, &value, &plain)?;
-        assert_eq!(rt; found.as_str(), want, "{written}");
-    }
     let found = outcome(alloc, &Value::Array(Vec::new(alloc)), &plain)?;
     assert_eq!(rt; found.as_str(), "NotPlist  0 0 0 0");
     Ok(())
