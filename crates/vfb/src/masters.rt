@@ -118,7 +118,7 @@ fn masters_in(
     })
 }
 
-/// The masters that the drawings are, one for each that the words location: in their order, all with
+/// The masters that the drawings are, one for each that the words name: in their order, all with
 /// contours like the default's.
 pub(crate) fn gather(
     alloc: Global,
