@@ -1,6 +1,12 @@
 -- Gathering the masters of a glyph.
-use Rattle.std.proofs.Common.{◌≡◌, ℕ, zero, suc, ℤ, All, Option, Some, None, Ok, Err, subst, ◌+◌, ◌<◌, List, [], ◌∷◌, ◌++◌, length, map, take, drop, get_or, add-one, drop-cons, refl, sym, ◌∙◌, ap, arith}
+use Rattle.std.proofs.Common.{◌≡◌, ℕ, zero, suc, ℤ, All, Option, Some, None, Ok, Err, subst, ◌+◌, ◌<◌, ◌≤◌, ◌≢◌, List, [], ◌∷◌, ◌++◌, length, map, take, drop, get_or, add-one, drop-cons, refl, sym, ◌∙◌, ap, arith}
+use Rattle.std.specs.List.{AllPairs}
+use Rattle.std.specs.Prelude.{nat_eq}
+use Rattle.std.proofs.lemmas.Bool.Decides.{Decides-eqb, nat_tests}
 use Rattle.std.proofs.lemmas.List.{get_or_default, take_more, map-append, length-map, get_or-map}
+use Rattle.std.proofs.lemmas.Map.Keys.{IsDistinct-IsPermutation}
+use Rattle.std.proofs.lemmas.Map.Made.{AllPairs-from_IsDistinct, IsDistinct-from_AllPairs}
+use Rattle.variation_rules.specs.PackedPoints.{count_from}
 use Rattle.arrayvec.specs.ArrayVec.{ArrayVec, array_vec_len}
 use Rattle.region_support.specs.Coordinates.{coordinates_of}
 use Rattle.region_support.specs.MasterOrder.{axes_of}
@@ -117,6 +123,12 @@ pub default_is : (drawings : List Drawing) (order numbers : List ℕ) (d : Drawi
 default_is drawings order numbers d same below =
     get_or_default drawings (get_or numbers 0 0) d nothing_drawn below ∙ ap (λ numbers. get_or drawings (get_or numbers 0 0) nothing_drawn) same
 
+-- and so where the drawings are borrowed
+pub default_among : (borrowed drawings : List Drawing) (order numbers : List ℕ) (default : Drawing) → borrowed ≡ drawings → default ≡ get_or borrowed (get_or numbers 0 0) default
+    → numbers ≡ order → get_or numbers 0 0 < length drawings → default ≡ default_drawing drawings order
+default_among borrowed drawings order numbers default same is same_numbers below =
+    is ∙ (ap (λ (all : List Drawing). get_or all (get_or numbers 0 0) default) same ∙ default_is drawings order numbers default same_numbers below)
+
 -- what is gathered, once the locations are in order
 gathered_by : (located : List Located) (drawings : List Drawing) (listed : List (List ℤ)) (order : List ℕ) (default : Drawing)
     → listed ≡ locations_of_drawings located → ordered listed ≡ Ok order → default ≡ default_drawing drawings order
@@ -189,3 +201,34 @@ first_below listed drawings order numbers same is count =
 pub one_location_each : (listed : List (ArrayVec ℤ)) (located : List words.Located) (drawings : List Drawing) → coordinates_of listed ≡ locations_of_drawings (map seen located) → length drawings ≡ length located
     → length drawings ≡ length listed
 one_location_each listed located drawings same count = omega (arith, count, locations_few listed (map seen located) same, length-map located seen)
+
+-- ---- outlines that are moved out of their drawings
+
+-- numbers that count up differ
+count_length : (n first : ℕ) → length (count_from n first) ≡ n
+count_length zero first = refl
+count_length (suc n) first = ap suc (count_length n (first + 1))
+
+counted : (n first k d : ℕ) → k < n → get_or (count_from n first) k d ≡ first + k
+counted zero first k d below = absurd (omega arith)
+counted (suc n) first zero d below = omega arith
+counted (suc n) first (suc k) d below = counted n (first + 1) k d (omega arith) ∙ omega arith
+
+count_apart : (n : ℕ) → AllPairs (λ first second. first ≢ second) (count_from n 0)
+count_apart n i j d before inside same =
+    let below : j < n = omega (arith, count_length n 0) in
+    absurd (omega (arith, counted n 0 i d (omega arith), counted n 0 j d below, same))
+
+flipped : (x y : ℕ) → nat_eq x y ≡ nat_eq y x
+flipped x y = grind (arith, nat_tests)
+
+-- no number stands twice in an order
+pub numbers_apart : (listed : List (List ℤ)) (order : List ℕ) → IsOrder listed order → AllPairs (λ first second. first ≢ second) order
+numbers_apart listed order is =
+    let numbers = count_from (length listed) 0 in
+    AllPairs-from_IsDistinct Decides-eqb order
+    (IsDistinct-IsPermutation nat_eq flipped numbers order is.all (IsDistinct-from_AllPairs Decides-eqb numbers (count_apart (length listed))))
+
+-- the drawings whose numbers come from this place on have their outlines still
+abbrev pub AreLeft : List Drawing → List Drawing → List ℕ → ℕ → Type 0
+AreLeft old new order i = (k : ℕ) → i ≤ k → k < length order → outline_numbered new (get_or order k 0) ≡ outline_numbered old (get_or order k 0)

@@ -119,6 +119,6 @@ pub(crate) fn make_data<S: Sources>(
 {
     let located = command.drawings.as_slice();
     let drawings = read_drawings(alloc, located, sources)?;
-    let masters = gather(alloc, located, drawings.as_slice())?;
+    let masters = gather(alloc, located, drawings)?;
     data_of(alloc, &masters)
 }

@@ -1,4 +1,5 @@
-ghost use Rattle.std.specs.Prelude.{◌≡◌, ◌<◌, ◌≤◌, length, map, All, IfOk};
+ghost use Rattle.std.specs.Prelude.{◌≡◌, ◌≢◌, ◌<◌, ◌≤◌, length, map, All, IfOk};
+ghost use Rattle.std.specs.List.{AllPairs};
 ghost use Rattle.basics.specs.Reading.{GivesBy};
 ghost use Rattle.glif.specs.Limits.{IsWithinLimits};
 ghost use Rattle.glif.specs.declared.shape.Drawing.{Drawing};
@@ -15,10 +16,11 @@ use crate::contours::all_alike;
 use crate::faults::location_fault;
 use crate::words::Located;
 use basics::{Kind, Name, NoMemory, Seq};
-use glif::{Drawing, Outline, Point};
+use glif::{Drawing, Outline};
 use region_support::{Location, ModelStop, in_order, order};
 use source_files::ReadStop;
 use std::alloc::Global;
+use std::mem;
 
 /// The masters of a glyph in their order, the default first.
 #[derive(Drop)]
@@ -72,28 +74,24 @@ fn ordered(alloc: Global, listed: &Seq<Location>) -> Result<Seq<u32>, ReadStop>
     }
 }
 
-/// An equal outline of its own.
-fn copy_of(alloc: Global, outline: &Outline) -> Result<Outline, NoMemory>
-    ensures { IfOk result (λ copy. copy ≡ outline.now) }
-{
-    let mut contours: Vec<Seq<Point>> = Vec::new(alloc);
-    for contour in outline.contours.as_slice() {
-        contours.push(Seq::from_vec(Vec::from_slice(alloc, contour.as_slice())?))?;
-    }
-    Ok(Outline {
-        advance: outline.advance,
-        contours: Seq::from_vec(contours),
-    })
-}
-
-/// What the drawings of these numbers draw, in their order.
-fn outlines_in(alloc: Global, drawings: &[Drawing], order: &[u32]) -> Result<Seq<Outline>, NoMemory>
-    requires { All (λ number. number < length drawings.now) order.now }
-    ensures { IfOk result (λ outlines. outlines ≡ map (λ number. (drawing_numbered drawings.now number).outline) order.now) }
+/// What the drawings of these numbers draw, in their order, moved out of the drawings.
+fn outlines_in(
+    alloc: Global,
+    mut drawings: Vec<Drawing>,
+    order: &[u32],
+) -> Result<Seq<Outline>, NoMemory>
+    requires numbers { All (λ number. number < length drawings.items) order.now }
+    requires apart { AllPairs (λ first second. first ≢ second) order.now }
+    ensures { IfOk result (λ outlines. outlines ≡ map (λ number. (drawing_numbered drawings.items number).outline) order.now) }
 {
     let mut outlines = Vec::new(alloc);
     for number in order {
-        outlines.push(copy_of(alloc, &drawings[*number as usize].outline)?)?;
+        let nothing = Outline {
+            advance: 0,
+            contours: Seq::new(alloc),
+        };
+        let outline = mem::replace(&mut drawings[*number as usize].outline, nothing);
+        outlines.push(outline)?;
     }
     Ok(Seq::from_vec(outlines))
 }
@@ -102,39 +100,43 @@ fn outlines_in(alloc: Global, drawings: &[Drawing], order: &[u32]) -> Result<Seq
 fn masters_in(
     alloc: Global,
     listed: &Seq<Location>,
-    drawings: &[Drawing],
+    drawings: Seq<Drawing>,
     order: &Seq<u32>,
 ) -> Result<Masters, NoMemory>
-    requires one_each { length drawings.now ≡ length listed.now }
+    requires one_each { length drawings ≡ length listed.now }
     requires order { IsOrder (coordinates_of listed.now) order.now }
-    ensures { IfOk result (λ masters. shown masters ≡ masters_in (coordinates_of listed.now) drawings.now order.now) }
+    ensures { IfOk result (λ masters. shown masters ≡ masters_in (coordinates_of listed.now) drawings order.now) }
 {
     let locations = in_order(alloc, listed, order)?;
     let numbers = order.as_slice();
+    let drawn = drawings.as_slice();
+    let name = drawn[numbers[0] as usize].name.try_copy(alloc)?;
+    let outlines = outlines_in(alloc, drawings.into_vec(), numbers)?;
     Ok(Masters {
-        name: drawings[numbers[0] as usize].name.try_copy(alloc)?,
+        name,
         locations,
-        outlines: outlines_in(alloc, drawings, numbers)?,
+        outlines,
     })
 }
 
-/// The masters that the drawings are, one for each that the words location: in their order, all with
+/// The masters that the drawings are, one for each that the words name: in their order, all with
 /// contours like the default's.
 pub(crate) fn gather(
     alloc: Global,
     located: &[Located<'_>],
-    drawings: &[Drawing],
+    drawings: Seq<Drawing>,
 ) -> Result<Masters, ReadStop>
     requires located { AreLocated (map seen located.now) }
-    requires one_each { length drawings.now ≡ length located.now }
-    requires within { All (λ (drawing : Drawing). IsWithinLimits drawing.outline) drawings.now }
-    ensures gathers { GivesBy StopsBy shown result (gathered (map seen located.now) drawings.now) }
+    requires one_each { length drawings ≡ length located.now }
+    requires within { All (λ (drawing : Drawing). IsWithinLimits drawing.outline) drawings }
+    ensures gathers { GivesBy StopsBy shown result (gathered (map seen located.now) drawings) }
     ensures never { NeverFails result }
     ensures gathered { IfOk result (λ masters. AreGathered (shown masters)) }
 {
     let listed = locations_of(alloc, located)?;
     let order = ordered(alloc, &listed)?;
-    let default = &drawings[order.as_slice()[0] as usize];
-    all_alike(alloc, default, located, drawings)?;
+    let drawn = drawings.as_slice();
+    let default = &drawn[order.as_slice()[0] as usize];
+    all_alike(alloc, default, located, drawn)?;
     Ok(masters_in(alloc, &listed, drawings, &order)?)
 }
