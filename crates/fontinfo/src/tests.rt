@@ -384,21 +384,22 @@ fn refuses_another_value(rt: HostRuntime) -> Result<(), Fail> {
 fn limits_texts(rt: HostRuntime) -> Result<(), Fail> {
     let alloc = rt.alloc();
     let plain = Info::plain(alloc)?;
-    for (key, most) in [
-        ("familyName", 100),
-        ("styleName", 100),
-        ("copyright", 1000),
-        ("openTypeNameVersion", 100),
+    // Each row: a key, how many pairs fill it, and one unit more than they have.
+    for (key, pairs, over) in [
+        ("familyName", 50, 101),
+        ("styleName", 50, 101),
+        ("copyright", 500, 1001),
+        ("openTypeNameVersion", 50, 101),
     ] {
         let mut written = format!(in alloc; "{key}='")?;
-        for _ in 0..most / 2 {
+        for _ in 0..pairs {
             written.push('\u{1f600}')?;
         }
         let found = outcome(alloc, &dict_of(alloc, written.as_str())?, &plain)?;
         assert!(rt; !found.as_str().starts_with("NameLength"), "{key}");
         written.push('\u{e9}')?;
         let found = outcome(alloc, &dict_of(alloc, written.as_str())?, &plain)?;
-        let want = format!(in alloc; "NameLength {key} 0 0 {} 0", most + 1)?;
+        let want = format!(in alloc; "NameLength {key} 0 0 {over} 0")?;
         assert_eq!(rt; found.as_str(), want.as_str());
     }
     Ok(())
