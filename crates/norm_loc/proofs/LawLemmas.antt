@@ -1,16 +1,16 @@
 -- The pairs lead from each node's normalised input to its normalised output.
-use Rattle.std.proofs.Common.{◌≡◌, ℕ, ℤ, zero, suc, ◌+◌, ◌<◌, ◌<ℤ◌, ◌≤ℤ◌, ◌⊎◌, inl, inr, Bool, true, false, List, [], ◌∷◌, length, Option, None, refl, sym, ap, ◌∙◌, subst, arith, rules}
+use Rattle.std.proofs.Common.{◌≡◌, ℕ, ℤ, zero, suc, ◌+◌, ◌<◌, ◌<ℤ◌, ◌⊎◌, inl, inr, Bool, true, false, List, [], ◌∷◌, length, None, refl, sym, ap, ◌∙◌, subst, arith, rules}
 use Rattle.std.proofs.lemmas.Int.{ints}
-use Rattle.std.specs.Prelude.{int_lt, if◌then◌else◌, IsTrue, Contains, slice_index_or, not, ◌&&◌, ◌||◌}
+use Rattle.std.specs.Prelude.{if◌then◌else◌, IsTrue, Contains, slice_index_or, not}
 use Rattle.std.specs.List.{list_any}
 use Rattle.std.specs.Ordering.{int_eq}
 use Rattle.norm_loc.specs.declared.follow.Direction.TheVariants.{Forward}
-use Rattle.norm_loc.specs.AvarPairs.{avar_at, avar_pairs, fixed_pairs, is_on_axis, pair_of, with_node, with_nodes, with_pair}
-use Rattle.norm_loc.specs.AxisMaps.{Mapping, design_of}
-use Rattle.norm_loc.specs.Following.{KeysRise, KeysRiseAfter, between, followed, followed_after, moved}
+use Rattle.norm_loc.specs.AvarPairs.{avar_pairs, fixed_pairs, is_on_axis, pair_of, with_node, with_nodes, with_pair}
+use Rattle.norm_loc.specs.AxisMaps.{design_of}
+use Rattle.norm_loc.specs.Following.{KeysRise, KeysRiseAfter, followed, followed_after}
 use Rattle.norm_loc.specs.Laws.{NodesAreMet}
-use Rattle.norm_loc.specs.MapFaults.{against, fault_of, is_against, stands_against}
-use Rattle.norm_loc.specs.Normalising.{Limits, normalised}
+use Rattle.norm_loc.specs.MapFaults.{against, is_against, stands_against}
+use Rattle.norm_loc.specs.Normalising.{Limits}
 use Rattle.norm_loc.proofs.Choices.{else_none, eq_of, eq_true, lt_false, lt_true, neither}
 use Rattle.norm_loc.proofs.MapLemmas.{faultless_parts}
 use Rattle.norm_loc.proofs.PairLemmas.{Compared, after_smaller, at_same, avar_pairs_rise, before_greater, compared, greater, less, same}

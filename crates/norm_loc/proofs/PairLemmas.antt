@@ -4,8 +4,8 @@ use Rattle.std.proofs.lemmas.Int.{ints}
 use Rattle.std.specs.Prelude.{int_lt, not, ◌||◌, if◌then◌else◌}
 use Rattle.std.specs.List.{insert, list_any}
 use Rattle.std.proofs.lemmas.List.{length-append, take_more, take_all}
-use Rattle.norm_loc.specs.declared.pairs.Place.TheVariants.{At, Taken}
-use Rattle.norm_loc.specs.Placing.{IsPlace}
+use Rattle.norm_loc.specs.declared.pairs.Insertion.TheVariants.{At, Taken}
+use Rattle.norm_loc.specs.Inserting.{IsInsertion}
 use Rattle.std.specs.Ordering.{int_eq}
 use Rattle.norm_loc.specs.declared.follow.Direction.TheVariants.{Forward}
 use Rattle.norm_loc.specs.AvarPairs.{avar_pairs, fixed_pairs, is_on_axis, pair_of, with_node, with_nodes, with_pair}
@@ -16,11 +16,11 @@ use Rattle.norm_loc.specs.MapFaults.{against, is_against, stands_against}
 use Rattle.norm_loc.proofs.Choices.{eq_false, eq_true, lt_false, lt_of, lt_true}
 
 -- these come before pairs with a greater first number, and decide what becomes of the pair
-pub record IsFront (p : ℤ × ℤ) (pairs front : List (ℤ × ℤ)) : Type 0 where
+pub record IsPrefix (p : ℤ × ℤ) (pairs prefix : List (ℤ × ℤ)) : Type 0 where
   pub greater : List (ℤ × ℤ)
-  pub all : pairs ≡ front ++ greater
-  pub placed : with_pair p pairs ≡ with_pair p front ++ greater
-  pub against : list_any (is_against p) pairs ≡ list_any (is_against p) front
+  pub all : pairs ≡ prefix ++ greater
+  pub placed : with_pair p pairs ≡ with_pair p prefix ++ greater
+  pub against : list_any (is_against p) pairs ≡ list_any (is_against p) prefix
 
 -- a pair with a smaller first number, with the same one, and with a greater one
 pub before_greater : (p q : ℤ × ℤ) (qs : List (ℤ × ℤ)) → p.0 <ℤ q.0 → with_pair p (q ∷ qs) ≡ p ∷ q ∷ qs
@@ -57,17 +57,17 @@ with_end_by p last q qs (same h) rest = at_same p q (qs ++ last ∷ []) h ∙ sy
 with_end_by p last q qs (greater h) rest =
     after_smaller p q (qs ++ last ∷ []) h ∙ (ap (λ (xs : List (ℤ × ℤ)). q ∷ xs) rest ∙ sym (ap (λ (xs : List (ℤ × ℤ)). xs ++ last ∷ []) (after_smaller p q qs h)))
 
-with_end : (p last : ℤ × ℤ) (front : List (ℤ × ℤ)) → p.0 <ℤ last.0 → with_pair p (front ++ last ∷ []) ≡ with_pair p front ++ last ∷ []
+with_end : (p last : ℤ × ℤ) (prefix : List (ℤ × ℤ)) → p.0 <ℤ last.0 → with_pair p (prefix ++ last ∷ []) ≡ with_pair p prefix ++ last ∷ []
 with_end p last [] h = before_greater p last [] h
 with_end p last (q ∷ qs) h = with_end_by p last q qs (compared p q) (with_end p last qs h)
 
-any_end : (p last : ℤ × ℤ) (front : List (ℤ × ℤ)) → p.0 <ℤ last.0 → list_any (is_against p) (front ++ last ∷ []) ≡ list_any (is_against p) front
+any_end : (p last : ℤ × ℤ) (prefix : List (ℤ × ℤ)) → p.0 <ℤ last.0 → list_any (is_against p) (prefix ++ last ∷ []) ≡ list_any (is_against p) prefix
 any_end p last [] h = apart p last false (λ (e : p.0 ≡ last.0). omega (arith, ints))
 any_end p last (q ∷ qs) h = ap (λ (b : Bool). is_against p q || b) (any_end p last qs h)
 
 -- the last pair is greater: those before it are enough
-pub front_before : (p last : ℤ × ℤ) (pairs before : List (ℤ × ℤ)) → IsFront p pairs (before ++ last ∷ []) → p.0 <ℤ last.0 → IsFront p pairs before
-front_before p last pairs before f h = record {
+pub prefix_before : (p last : ℤ × ℤ) (pairs before : List (ℤ × ℤ)) → IsPrefix p pairs (before ++ last ∷ []) → p.0 <ℤ last.0 → IsPrefix p pairs before
+prefix_before p last pairs before f h = record {
   greater = last ∷ f.greater;
   all = f.all ∙ append_assoc before (last ∷ []) f.greater;
   placed = f.placed ∙ (ap (λ (xs : List (ℤ × ℤ)). xs ++ f.greater) (with_end p last before h) ∙ append_assoc (with_pair p before) (last ∷ []) f.greater);
@@ -80,13 +80,13 @@ keys_tail : (q : ℤ × ℤ) (qs : List (ℤ × ℤ)) → KeysRiseAfter Forward 
 keys_tail q [] rise = tt
 keys_tail q (r ∷ rs) rise = rise.1
 
-front_after : (n : ℤ × ℤ) (front back : List (ℤ × ℤ)) → KeysRiseAfter Forward n (front ++ back) → KeysRiseAfter Forward n front
-front_after n [] back rise = tt
-front_after n (m ∷ ms) back rise = (rise.0, front_after m ms back rise.1)
+prefix_after : (n : ℤ × ℤ) (prefix back : List (ℤ × ℤ)) → KeysRiseAfter Forward n (prefix ++ back) → KeysRiseAfter Forward n prefix
+prefix_after n [] back rise = tt
+prefix_after n (m ∷ ms) back rise = (rise.0, prefix_after m ms back rise.1)
 
-front_rises : (front back : List (ℤ × ℤ)) → KeysRise Forward (front ++ back) → KeysRise Forward front
-front_rises [] back rise = tt
-front_rises (n ∷ ns) back rise = front_after n ns back rise
+prefix_rises : (prefix back : List (ℤ × ℤ)) → KeysRise Forward (prefix ++ back) → KeysRise Forward prefix
+prefix_rises [] back rise = tt
+prefix_rises (n ∷ ns) back rise = prefix_after n ns back rise
 
 below_end : (q last : ℤ × ℤ) (qs : List (ℤ × ℤ)) → KeysRiseAfter Forward q (qs ++ last ∷ []) → q.0 <ℤ last.0
 below_end q last [] rise = rise.0
@@ -126,36 +126,36 @@ same_end p last (q ∷ qs) rise h =
 against_same : (p q : ℤ × ℤ) → q.0 ≡ p.0 → is_against p q ≡ not (int_eq p.1 q.1)
 against_same p q h = rw (eq_true p.0 q.0 (sym h)) refl
 
--- ---- the place of a pair
+-- ---- where a pair belongs
 
-insert_at : (front back : List (ℤ × ℤ)) (p : ℤ × ℤ) → insert (front ++ back) (length front) p ≡ front ++ p ∷ back
+insert_at : (prefix back : List (ℤ × ℤ)) (p : ℤ × ℤ) → insert (prefix ++ back) (length prefix) p ≡ prefix ++ p ∷ back
 insert_at [] back p = refl
 insert_at (q ∷ qs) back p = ap (λ (xs : List (ℤ × ℤ)). q ∷ xs) (insert_at qs back p)
 
-length_front : (front back pairs : List (ℤ × ℤ)) → pairs ≡ front ++ back → length front ≤ length pairs
-length_front front back pairs e = omega (arith, length-append front back, ap (λ (xs : List (ℤ × ℤ)). length xs) e)
+length_prefix : (prefix back pairs : List (ℤ × ℤ)) → pairs ≡ prefix ++ back → length prefix ≤ length pairs
+length_prefix prefix back pairs e = omega (arith, length-append prefix back, ap (λ (xs : List (ℤ × ℤ)). length xs) e)
 
--- where no pair of the front is greater or the same, the pair belongs behind it
-pub place_behind : (p : ℤ × ℤ) (pairs front : List (ℤ × ℤ)) → IsFront p pairs front → with_pair p front ≡ front ++ p ∷ [] → list_any (is_against p) front ≡ false → IsPlace p pairs (At (length front))
-place_behind p pairs front f last none = (
-  length_front front f.greater pairs f.all,
-  ap (λ (xs : List (ℤ × ℤ)). insert xs (length front) p) f.all ∙ (insert_at front f.greater p ∙ sym (f.placed ∙ (ap (λ (xs : List (ℤ × ℤ)). xs ++ f.greater) last ∙ append_assoc front (p ∷ []) f.greater))),
+-- where no pair of the prefix is greater or the same, the pair belongs after it
+pub insert_last : (p : ℤ × ℤ) (pairs prefix : List (ℤ × ℤ)) → IsPrefix p pairs prefix → with_pair p prefix ≡ prefix ++ p ∷ [] → list_any (is_against p) prefix ≡ false → IsInsertion p pairs (At (length prefix))
+insert_last p pairs prefix f last none = (
+  length_prefix prefix f.greater pairs f.all,
+  ap (λ (xs : List (ℤ × ℤ)). insert xs (length prefix) p) f.all ∙ (insert_at prefix f.greater p ∙ sym (f.placed ∙ (ap (λ (xs : List (ℤ × ℤ)). xs ++ f.greater) last ∙ append_assoc prefix (p ∷ []) f.greater))),
   f.against ∙ none,
 )
 
-pub place_first : (p : ℤ × ℤ) (pairs front : List (ℤ × ℤ)) → IsFront p pairs front → front ≡ [] → IsPlace p pairs (At (length front))
-place_first p pairs front f e =
-    place_behind p pairs front f (ap (with_pair p) e ∙ sym (ap (λ (xs : List (ℤ × ℤ)). xs ++ p ∷ []) e)) (ap (list_any (is_against p)) e)
+pub insert_first : (p : ℤ × ℤ) (pairs prefix : List (ℤ × ℤ)) → IsPrefix p pairs prefix → prefix ≡ [] → IsInsertion p pairs (At (length prefix))
+insert_first p pairs prefix f e =
+    insert_last p pairs prefix f (ap (with_pair p) e ∙ sym (ap (λ (xs : List (ℤ × ℤ)). xs ++ p ∷ []) e)) (ap (list_any (is_against p)) e)
 
-pub place_after : (p last : ℤ × ℤ) (pairs front others : List (ℤ × ℤ)) → KeysRise Forward pairs → IsFront p pairs front → front ≡ others ++ last ∷ [] → last.0 <ℤ p.0 → IsPlace p pairs (At (length front))
-place_after p last pairs front others rise f e h =
-    let own : KeysRise Forward front = front_rises front f.greater (subst (KeysRise Forward) f.all rise) in
+pub insert_after : (p last : ℤ × ℤ) (pairs prefix others : List (ℤ × ℤ)) → KeysRise Forward pairs → IsPrefix p pairs prefix → prefix ≡ others ++ last ∷ [] → last.0 <ℤ p.0 → IsInsertion p pairs (At (length prefix))
+insert_after p last pairs prefix others rise f e h =
+    let own : KeysRise Forward prefix = prefix_rises prefix f.greater (subst (KeysRise Forward) f.all rise) in
     let end = after_end p last others (subst (KeysRise Forward) e own) h in
-    place_behind p pairs front f (ap (with_pair p) e ∙ (end.0 ∙ sym (ap (λ (xs : List (ℤ × ℤ)). xs ++ p ∷ []) e))) (ap (list_any (is_against p)) e ∙ end.1)
+    insert_last p pairs prefix f (ap (with_pair p) e ∙ (end.0 ∙ sym (ap (λ (xs : List (ℤ × ℤ)). xs ++ p ∷ []) e))) (ap (list_any (is_against p)) e ∙ end.1)
 
-pub place_taken : (p last : ℤ × ℤ) (pairs front others : List (ℤ × ℤ)) → KeysRise Forward pairs → IsFront p pairs front → front ≡ others ++ last ∷ [] → last.0 ≡ p.0 → IsPlace p pairs (Taken (int_eq p.1 last.1))
-place_taken p last pairs front others rise f e h =
-    let own : KeysRise Forward front = front_rises front f.greater (subst (KeysRise Forward) f.all rise) in
+pub insert_taken : (p last : ℤ × ℤ) (pairs prefix others : List (ℤ × ℤ)) → KeysRise Forward pairs → IsPrefix p pairs prefix → prefix ≡ others ++ last ∷ [] → last.0 ≡ p.0 → IsInsertion p pairs (Taken (int_eq p.1 last.1))
+insert_taken p last pairs prefix others rise f e h =
+    let own : KeysRise Forward prefix = prefix_rises prefix f.greater (subst (KeysRise Forward) f.all rise) in
     let end = same_end p last others (subst (KeysRise Forward) e own) h in (
       f.all ∙ sym (f.placed ∙ ap (λ (xs : List (ℤ × ℤ)). xs ++ f.greater) (ap (with_pair p) e ∙ (end.0 ∙ sym e))),
       f.against ∙ (ap (list_any (is_against p)) e ∙ (end.1 ∙ against_same p last h)),

@@ -17,7 +17,7 @@ is_on_axis user node = int_le user.min node.0 && int_le node.0 user.max
 abbrev pub pair_of : Limits → Limits → ℤ × ℤ → ℤ × ℤ
 pair_of user design node = (normalised user node.0, normalised design node.1)
 
--- a pair in its place among pairs that rise by their first numbers; kept once
+-- a pair where it belongs among pairs that rise by their first numbers; kept once
 abbrev pub with_pair : ℤ × ℤ → List (ℤ × ℤ) → List (ℤ × ℤ)
 with_pair p [] = p ∷ []
 with_pair p (q ∷ qs) =

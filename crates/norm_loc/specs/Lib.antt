@@ -5,5 +5,5 @@ pub mod Laws
 pub mod MapFaults
 pub mod Maps
 pub mod Normalising
-pub mod Placing
+pub mod Inserting
 pub mod Spans

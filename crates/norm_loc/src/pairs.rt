@@ -4,7 +4,7 @@ ghost use Rattle.norm_loc.specs.declared.follow.Direction.TheVariants.{Forward};
 ghost use Rattle.norm_loc.specs.AvarPairs.{is_on_axis, with_node, with_pair};
 ghost use Rattle.norm_loc.specs.Following.{KeysRise};
 ghost use Rattle.norm_loc.specs.MapFaults.{is_against, stands_against};
-ghost use Rattle.norm_loc.specs.Placing.{AnswersPairs, IsPlace};
+ghost use Rattle.norm_loc.specs.Inserting.{AnswersPairs, IsInsertion};
 ghost use Rattle.norm_loc.specs.Spans.{limits};
 
 use crate::coordinate::normalise;
@@ -15,7 +15,7 @@ use fixpoint::Fix;
 use std::alloc::Global;
 
 // Where a pair belongs among others.
-enum Place {
+enum Insertion {
     // At this index.
     At(usize),
     // Its first number is there already; whether its second one is the same.
@@ -24,32 +24,32 @@ enum Place {
 
 // Looks from the end: nodes make pairs in rising order, so that few stand after a new one, those that each
 // axis has.
-fn place_of(pairs: &[(Fix<14>, Fix<14>)], pair: &(Fix<14>, Fix<14>)) -> Place
+fn insertion_of(pairs: &[(Fix<14>, Fix<14>)], pair: &(Fix<14>, Fix<14>)) -> Insertion
     requires { KeysRise Forward pairs.now }
-    ensures { IsPlace pair.now pairs.now result }
+    ensures { IsInsertion pair.now pairs.now result }
 {
-    let mut front = pairs;
-    while let [before @ .., last] = front {
+    let mut prefix = pairs;
+    while let [before @ .., last] = prefix {
         if last.0 < pair.0 {
             break;
         }
         if last.0 == pair.0 {
-            return Place::Taken(pair.1 == last.1);
+            return Insertion::Taken(pair.1 == last.1);
         }
-        front = before;
+        prefix = before;
     }
-    Place::At(front.len())
+    Insertion::At(prefix.len())
 }
 
-// Puts a pair in its place, once. Whether no pair stands against it.
+// Puts a pair where it belongs, once. Whether no pair stands against it.
 fn put(pairs: &mut Vec<(Fix<14>, Fix<14>)>, pair: (Fix<14>, Fix<14>)) -> Result<bool, NoMemory>
     requires { KeysRise Forward pairs.old.items }
     ensures placed { OnOk result (pairs.new.items ≡ with_pair pair pairs.old.items) }
     ensures alone { IfOk result (λ alone. alone ≡ not (list_any (is_against pair) pairs.old.items)) }
 {
-    match place_of(pairs.as_slice(), &pair) {
-        Place::Taken(alone) => Ok(alone),
-        Place::At(index) => {
+    match insertion_of(pairs.as_slice(), &pair) {
+        Insertion::Taken(alone) => Ok(alone),
+        Insertion::At(index) => {
             pairs.insert(index, pair)?;
             Ok(true)
         }
@@ -63,7 +63,7 @@ fn is_on_axis(user: &Span, node: &(Fix<16>, Fix<16>)) -> bool
     user.min <= node.0 && node.0 <= user.max
 }
 
-// Puts the pair of a node in its place, if it makes one. Whether no pair stands against it.
+// Puts the pair of a node where it belongs, if it makes one. Whether no pair stands against it.
 fn put_node(
     pairs: &mut Vec<(Fix<14>, Fix<14>)>,
     user: &Span,

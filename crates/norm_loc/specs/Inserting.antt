@@ -3,17 +3,17 @@ use Rattle.std.specs.Prelude.{◌≡◌, ℤ, ◌≤◌, List, length, false, no
 use Rattle.std.specs.List.{insert, list_any}
 use Rattle.norm_loc.specs.declared.stop.MapStop.{MapStop}
 use Rattle.norm_loc.specs.declared.stop.MapStop.TheVariants.{MapOrder, MapRange, MapCollapse, NoMemory}
-use Rattle.norm_loc.specs.declared.pairs.Place.{Place}
-use Rattle.norm_loc.specs.declared.pairs.Place.TheVariants.{At, Taken}
+use Rattle.norm_loc.specs.declared.pairs.Insertion.{Insertion}
+use Rattle.norm_loc.specs.declared.pairs.Insertion.TheVariants.{At, Taken}
 use Rattle.norm_loc.specs.AvarPairs.{fixed_pairs, with_nodes, with_pair}
 use Rattle.norm_loc.specs.MapFaults.{against, is_against}
 use Rattle.norm_loc.specs.Normalising.{Limits}
 
--- the place of a pair among others, and whether none of them stands against it
-abbrev pub IsPlace : ℤ × ℤ → List (ℤ × ℤ) → Place → Type 0
-IsPlace p pairs (At index) =
+-- where a pair belongs among others, and whether none of them stands against it
+abbrev pub IsInsertion : ℤ × ℤ → List (ℤ × ℤ) → Insertion → Type 0
+IsInsertion p pairs (At index) =
     (index ≤ length pairs) × (insert pairs index p ≡ with_pair p pairs) × (list_any (is_against p) pairs ≡ false)
-IsPlace p pairs (Taken same) = (pairs ≡ with_pair p pairs) × (list_any (is_against p) pairs ≡ not same)
+IsInsertion p pairs (Taken same) = (pairs ≡ with_pair p pairs) × (list_any (is_against p) pairs ≡ not same)
 
 -- all pairs, where none stands against another; else the first node whose pair does; want of memory is free
 abbrev pub AnswersPairs : Limits → Limits → List (ℤ × ℤ) → Result (List (ℤ × ℤ)) MapStop → Type 0
