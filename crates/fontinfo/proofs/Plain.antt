@@ -10,7 +10,7 @@ use Rattle.fontinfo.specs.Lines.{hhea_of, typo_of}
 use Rattle.fontinfo.specs.Metrics.{heights_of, letters_of, metrics_of, part_of, units_of}
 use Rattle.fontinfo.specs.Naming.{legal_of, names_of, naming_of, version_of}
 use Rattle.fontinfo.specs.Tables.{os2_of, tables_of}
-use Rattle.fontinfo.specs.Texts.{version_text}
+use Rattle.fontinfo.specs.Version.{version_text}
 use Rattle.fontinfo.specs.Underlines.{underline_of}
 
 first_version : version_text 0 0 ≡ codes "Version 0.000"

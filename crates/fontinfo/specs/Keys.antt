@@ -13,7 +13,8 @@ use Rattle.plist.specs.Values.{Entry, PlainValue, as_dict, as_number, as_text, g
 use Rattle.fontinfo.specs.KeyNames.{key_name}
 use Rattle.fontinfo.specs.declared.key.Key.{Key}
 use Rattle.fontinfo.specs.declared.keys.Range.{Range}
-use Rattle.fontinfo.specs.Texts.{tag_of, utf16_length}
+use Rattle.font_text.specs.Tags.{tag_of}
+use Rattle.font_text.specs.Utf16.{utf16_length}
 
 -- a value of the wrong kind
 abbrev pub wrong_kind : {A : Type 0} → Result A Spot

@@ -7,5 +7,5 @@ pub mod Metrics
 pub mod Naming
 pub mod Ranges
 pub mod Tables
-pub mod Texts
+pub mod Version
 pub mod Underlines

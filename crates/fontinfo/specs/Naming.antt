@@ -12,7 +12,7 @@ use Rattle.fontinfo.specs.declared.key.Key.TheVariants as key
 use Rattle.fontinfo.specs.Keys.{number_or, text_if_there, text_or}
 use Rattle.fontinfo.specs.Ranges as range
 use Rattle.fontinfo.specs.Ranges.{IsWithin}
-use Rattle.fontinfo.specs.Texts.{version_text}
+use Rattle.fontinfo.specs.Version.{version_text}
 
 unfoldable pub names_of : PlainValue → Result Names Spot
 names_of info = do

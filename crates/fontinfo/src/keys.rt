@@ -7,9 +7,9 @@ ghost use Rattle.fontinfo.specs.Keys as rules;
 ghost use Rattle.fontinfo.specs.Ranges.{IsWithin};
 
 use crate::key::Key;
-use crate::texts::{tag_of, utf16_length};
 use basics::{Kind, Name, Stop, stop_at};
 use fixpoint::{Fix, NumberFault, divide_up, parse_fix16};
+use font_text::{tag_of, utf16_length};
 use plist::Value;
 use std::alloc::Global;
 
@@ -96,8 +96,7 @@ fn read_fixed(alloc: Global, key: Key, value: &Value) -> Result<Fix<16>, Stop>
     ensures { Gives (λ number. number) result (rules.fixed_of key (plain_value value.now)) }
 {
     let text = number_text(alloc, value)?;
-    let number = number_or_fault(alloc, key, parse_fix16(text))?;
-    Ok(number)
+    number_or_fault(alloc, key, parse_fix16(text))
 }
 
 /// The whole number nearest to the one that is written, a tie going up.
@@ -128,8 +127,7 @@ fn read_number(alloc: Global, range: Range, key: Key, value: &Value) -> Result<i
     ensures within { IfOk result (IsWithin range) }
 {
     let number = read_rounded(alloc, key, value)?;
-    let number = ranged(alloc, range, key, number)?;
-    Ok(number)
+    ranged(alloc, range, key, number)
 }
 
 /// The whole number of a key, or the default where the key is absent.
@@ -163,10 +161,7 @@ pub(crate) fn number_if_there(
     ensures within { IfOk result (λ number. IfSome number (IsWithin range)) }
 {
     match info.get(key.name()) {
-        Some(value) => {
-            let number = read_number(alloc, range, key, value)?;
-            Ok(Some(number))
-        }
+        Some(value) => Ok(Some(read_number(alloc, range, key, value)?)),
         None => Ok(None),
     }
 }
@@ -188,8 +183,7 @@ fn short(alloc: Global, most: usize, key: Key, text: &str) -> Result<Name, Stop>
 {
     let units = utf16_length(text);
     if units <= most {
-        let text = Name::from_str(alloc, text)?;
-        Ok(text)
+        Ok(Name::from_str(alloc, text)?)
     } else {
         Err(stop_at(alloc, Kind::NameLength, key.name(), 0, units as i64))
     }
@@ -201,8 +195,7 @@ pub(crate) fn read_text(alloc: Global, most: usize, key: Key, value: &Value) -> 
     ensures { Gives (λ text. text) result (rules.text_of most key (plain_value value.now)) }
 {
     let text = own_text(alloc, value)?;
-    let text = short(alloc, most, key, text)?;
-    Ok(text)
+    short(alloc, most, key, text)
 }
 
 /// The text of a key, or the default where the key is absent.
@@ -218,10 +211,7 @@ pub(crate) fn text_or(
 {
     match info.get(key.name()) {
         Some(value) => read_text(alloc, most, key, value),
-        None => {
-            let text = Name::from_str(alloc, default)?;
-            Ok(text)
-        }
+        None => Ok(Name::from_str(alloc, default)?),
     }
 }
 
@@ -236,10 +226,7 @@ pub(crate) fn text_if_there(
     ensures { Gives (λ text. text) result (rules.text_if_there most key (plain_value info.now)) }
 {
     match info.get(key.name()) {
-        Some(value) => {
-            let text = read_text(alloc, most, key, value)?;
-            Ok(Some(text))
-        }
+        Some(value) => Ok(Some(read_text(alloc, most, key, value)?)),
         None => Ok(None),
     }
 }
@@ -260,6 +247,5 @@ pub(crate) fn read_tag(alloc: Global, value: &Value) -> Result<[u8; 4], Stop>
     ensures { Gives (λ tag. tag) result (rules.tag_value (plain_value value.now)) }
 {
     let text = own_text(alloc, value)?;
-    let tag = tag_or_fault(alloc, text, tag_of(text))?;
-    Ok(tag)
+    tag_or_fault(alloc, text, tag_of(text))
 }

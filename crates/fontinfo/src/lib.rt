@@ -10,8 +10,8 @@ mod lines;
 mod metrics;
 mod naming;
 mod tables;
-mod texts;
 mod underline;
+mod version;
 
 pub use info::{Info, read};
 

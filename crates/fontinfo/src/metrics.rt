@@ -63,8 +63,7 @@ fn units_value(alloc: Global, value: &Value) -> Result<i32, Stop>
     ensures within { IfOk result (IsWithin range.units) }
 {
     let number = read_rounded(alloc, Key::UnitsPerEm, value)?;
-    let units = units_or_fault(alloc, number)?;
-    Ok(units)
+    units_or_fault(alloc, number)
 }
 
 /// The units of the em.

@@ -6,7 +6,7 @@ ghost use Rattle.fontinfo.specs.Naming.{IsVersionWithin};
 
 use crate::key::Key;
 use crate::keys::{NAME_UNITS, Range, number_or, text_if_there, text_or};
-use crate::texts::version_text;
+use crate::version::version_text;
 use basics::{Name, Stop};
 use plist::Value;
 use std::alloc::Global;

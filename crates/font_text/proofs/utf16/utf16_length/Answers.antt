@@ -4,9 +4,9 @@ use Rattle.std.proofs.lemmas.Iterator.{YieldsList-from_chars}
 use Rattle.std.proofs.lemmas.Iterator.Consumers.{YieldsList-turn, YieldsList-end}
 use Rattle.std.proofs.lemmas.List.{at_drop_all, length_push}
 use Rattle.std.specs.Str.{chars}
-use Rattle.fontinfo.proofs.Units.{units_drop, units_within}
-use Rattle.fontinfo.specs.Texts.{unit_count, utf16_length}
-use Rattle.fontinfo.proofs.texts.utf16_length.Goals as goal
+use Rattle.font_text.proofs.Units.{units_drop, units_within}
+use Rattle.font_text.specs.Utf16.{unit_count, utf16_length}
+use Rattle.font_text.proofs.utf16.utf16_length.Goals as goal
 
 pub overflow_add-units : goal.overflow_add-units
 overflow_add-units c =

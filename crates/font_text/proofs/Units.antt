@@ -7,7 +7,7 @@ use Rattle.std.proofs.lemmas.Str.{encodes-chars, length-encode}
 use Rattle.std.proofs.Math.Utf8.{encode, encodes}
 use Rattle.std.specs.Char.{len_utf8}
 use Rattle.std.specs.Str.{chars, IsUtf8}
-use Rattle.fontinfo.specs.Texts.{unit_count}
+use Rattle.font_text.specs.Utf16.{unit_count}
 
 one_within : (c : ℕ) → unit_count c ≤ len_utf8 c
 one_within c = grind (arith, nat_tests)
