@@ -168,8 +168,7 @@ fn outlines_by(
     if let Some(refusal) = first_fault(flats.as_slice()) {
         return Err(FlattenStop::Refused(refusal));
     }
-    let outlines = outlines_of(alloc, drawings, flats)?;
-    Ok(outlines)
+    Ok(outlines_of(alloc, drawings, flats)?)
 }
 
 /// The flattened outlines, or the first fault.

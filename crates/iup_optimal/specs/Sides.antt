@@ -31,7 +31,8 @@ pub record Follows (end point : Relative) : Type 0 where
   pub inside : pos 0 <ℤ point.way → point.way <ℤ end.way → Collinear point end
   pub beyond : end.way ≤ℤ point.way → point.step ≡ end.step
 
--- The nearest point of a side, and the least way of a point that isn't on its line. 65536 stands for none.
+-- The nearest point of a side, and the least way of a point that isn't on its line: bounds of the second reference,
+-- which are the widest way that there is, 65536, as long as no point is seen.
 pub record IsNearest (nearest : Nearest) : Type 0 where
   pub relative : IsRelative nearest.at
   pub some : pos 0 <ℤ nearest.at.way
@@ -41,7 +42,8 @@ pub record IsNearest (nearest : Nearest) : Type 0 where
 abbrev pub AllowsNear : Nearest → Relative → Type 0
 AllowsNear nearest end = (end.way ≤ℤ nearest.at.way) ⊎ (Collinear nearest.at end × (end.way ≤ℤ nearest.off))
 
--- The farthest point of a side, and the greatest way of a point whose step isn't its. 0 stands for none.
+-- The farthest point of a side, and the greatest way of a point whose step isn't its: bounds from the other end, which
+-- are the first reference itself, at 0, as long as no point is seen.
 pub record IsFarthest (farthest : Farthest) : Type 0 where
   pub within : farthest.torn ≤ℤ farthest.at.way
 

@@ -43,21 +43,21 @@ pub struct Relative {
     pub step: i64,
 }
 
-/// The points of a side on the line of the nearest.
+/// The points of a side on the line of the nearest, as bounds of the second reference.
 #[derive(Clone, Copy)]
 pub struct Nearest {
-    /// The nearest point.
+    /// The nearest point: an end at or before it is left open.
     at: Relative,
-    /// The least way of a point that isn't on its line.
+    /// The least way of a point that isn't on its line: an end on the line is left open up to it.
     off: i64,
 }
 
-/// The points of a side that move as much as the farthest.
+/// The points of a side that move as much as the farthest, as bounds from the other end.
 #[derive(Clone, Copy)]
 pub struct Farthest {
-    /// The farthest point.
+    /// The farthest point, at first the reference itself: an end beyond it is left open.
     at: Relative,
-    /// The greatest way of a point that moves otherwise.
+    /// The greatest way of a point that moves otherwise: an end that moves as the farthest is left open beyond it.
     torn: i64,
 }
 
@@ -70,8 +70,9 @@ pub struct Side {
     farthest: Farthest,
 }
 
-// No two points lie farther from one another, so it stands for the nearest of none.
-const NONE: i64 = 65536;
+// The greatest way that there is from one coordinate to another: at first it bounds what is left open, so
+// that no end is left out.
+const WIDEST: i64 = 65536;
 
 impl Relative {
     /// The point as it is seen from the reference.
@@ -210,8 +211,11 @@ impl Side {
         Side {
             level_behind: true,
             nearest: Nearest {
-                at: Relative { way: NONE, step: 0 },
-                off: NONE,
+                at: Relative {
+                    way: WIDEST,
+                    step: 0,
+                },
+                off: WIDEST,
             },
             farthest: Farthest {
                 at: Relative { way: 0, step: 0 },

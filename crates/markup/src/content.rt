@@ -58,8 +58,7 @@ fn allowed(number: u32) -> Option<char>
     if number < 32 && number != 9 && number != 10 && number != 13 {
         return None;
     }
-    let c = char::from_u32(number)?;
-    Some(c)
+    char::from_u32(number)
 }
 
 /// Whether each byte is a decimal digit.
@@ -84,8 +83,7 @@ fn decimal(digits: &[u8]) -> Option<char>
     if digits.is_empty() || !are_digits(digits) {
         return None;
     }
-    let c = allowed(number_up_to_cap(10, digits))?;
-    Some(c)
+    allowed(number_up_to_cap(10, digits))
 }
 
 /// The character whose number these hexadecimal digits write.
@@ -96,8 +94,7 @@ fn hexadecimal(digits: &[u8]) -> Option<char>
     if digits.is_empty() || !are_hexadecimal_digits(digits) {
         return None;
     }
-    let c = allowed(number_up_to_cap(16, digits))?;
-    Some(c)
+    allowed(number_up_to_cap(16, digits))
 }
 
 /// The character of a number after `#`, in hexadecimal digits after `x`.
@@ -109,11 +106,9 @@ fn number_of(bytes: &[u8]) -> Option<char>
         [] => None,
         [byte, digits @ ..] => {
             if *byte == b'x' {
-                let c = hexadecimal(digits)?;
-                Some(c)
+                hexadecimal(digits)
             } else {
-                let c = decimal(bytes)?;
-                Some(c)
+                decimal(bytes)
             }
         }
     }
@@ -128,8 +123,7 @@ fn number_reference(bytes: &[u8]) -> Option<char>
         [] => None,
         [byte, number @ ..] => {
             if *byte == b'#' {
-                let c = number_of(number)?;
-                Some(c)
+                number_of(number)
             } else {
                 None
             }
@@ -153,8 +147,7 @@ fn character_of(body: &[u8]) -> Option<char>
     } else if body == b"apos".as_slice() {
         Some('\'')
     } else {
-        let c = number_reference(body)?;
-        Some(c)
+        number_reference(body)
     }
 }
 

@@ -164,13 +164,7 @@ pub(crate) fn markup_of<'a>(alloc: Global, item: Item<'a>) -> Result<Markup<'a>,
         Item::Tag(body) => Ok(tag_markup(body)),
         Item::Broken => Ok(Markup::Bad),
         Item::Unended => Ok(Markup::Bad),
-        Item::DataBetween(bytes) => {
-            let markup = data_markup(alloc, bytes)?;
-            Ok(markup)
-        }
-        Item::DataToEnd(bytes) => {
-            let markup = data_markup(alloc, bytes)?;
-            Ok(markup)
-        }
+        Item::DataBetween(bytes) => data_markup(alloc, bytes),
+        Item::DataToEnd(bytes) => data_markup(alloc, bytes),
     }
 }

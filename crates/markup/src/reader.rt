@@ -15,7 +15,7 @@ use crate::state::State;
 use basics::Stop;
 use std::alloc::Global;
 
-/// The text without the byte order mark in prefix.
+/// The text without the byte order mark that may begin it.
 fn after_mark(text: &[u8]) -> &[u8]
     ensures value { result.now ≡ faults.after_mark text.now }
     ensures within { length result.now ≤ length text.now }
@@ -35,10 +35,7 @@ fn read_items(alloc: Global, text: &[u8]) -> Result<Element, Stop>
     let mut state = State::new(alloc);
     let mut rest = after_mark(text);
     while !rest.is_empty() {
-        match state.step(alloc, total, rest) {
-            Ok(after) => rest = after,
-            Err(stop) => return Err(stop),
-        }
+        rest = state.step(alloc, total, rest)?;
     }
     state.into_root(alloc, total)
 }
@@ -53,7 +50,7 @@ fn read_items(alloc: Global, text: &[u8]) -> Result<Element, Stop>
 /// # Errors
 ///
 /// `Stop::At` with a `Spot` of a kind and an offset alone, exactly where the text isn't of that form. The offset
-/// is an offset in bytes, the three in prefix included. The text is taken item by item, an item being a
+/// is an offset in bytes, the three before it included. The text is taken item by item, an item being a
 /// comment, an instruction, a declaration, a tag or the characters between; the first faulty item decides.
 /// Of one item the kind is TooDeep where it begins an element inside 64 others, at the item; Unfinished
 /// where it has no end, at the length of the text; BadText where it isn't of a right form or may not stand

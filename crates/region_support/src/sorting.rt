@@ -122,8 +122,7 @@ pub fn order(alloc: Global, locations: &Seq<Location>) -> Result<Seq<u32>, Model
     if let Some(stop) = model_fault(locations) {
         return Err(stop);
     }
-    let numbers = sorted_numbers(alloc, locations)?;
-    Ok(numbers)
+    Ok(sorted_numbers(alloc, locations)?)
 }
 
 /// Copies of the locations in their order, which is what `boxes` takes.

@@ -1,4 +1,5 @@
 use Rattle.std.proofs.Common.{◌≡◌, ◌<◌, ◌∙◌, ◌≤◌, sym, ap, subst, length, rules, arith}
+use Rattle.std.proofs.lemmas.Result.{err_from_is_err_and}
 use Rattle.markup_rules.specs.Outcome.{initial, outcome}
 use Rattle.basics.specs.Reading.{Gives}
 use Rattle.markup.specs.Plain.{plain}
@@ -17,19 +18,20 @@ pub loop-rest-preserved : goal.loop-rest-preserved
 loop-rest-preserved c =
     let some : 0 < length c.loop-rest.rest.now = search rules in
     let total = length c.args.text.now in
-    let shorter = is_shorter c.loop-rest.rest.now c.in-Ok.after.now some c.in-Ok.ensures.1 in
-    let left : length c.in-Ok.after.now ≤ total = omega (arith, shorter, c.loop-rest.invariant.0) in
-    (left, goes_on total (state_of c.loop-rest.state) (state_of c.step.new.self) c.loop-rest.rest.now c.in-Ok.after.now (outcome c.args.text.now) some c.in-Ok.ensures c.loop-rest.invariant.1)
+    let shorter = is_shorter c.loop-rest.rest.now c.in_ok-rest.rest.now some c.in_ok-rest.ensures.1 in
+    let left : length c.in_ok-rest.rest.now ≤ total = omega (arith, shorter, c.loop-rest.invariant.0) in
+    (left, goes_on total (state_of c.loop-rest.state) (state_of c.step.new.self) c.loop-rest.rest.now c.in_ok-rest.rest.now (outcome c.args.text.now) some c.in_ok-rest.ensures c.loop-rest.invariant.1)
 
 pub loop-rest-smaller : goal.loop-rest-smaller
 loop-rest-smaller c =
     let some : 0 < length c.loop-rest.rest.now = search rules in
-    is_shorter c.loop-rest.rest.now c.in-Ok.after.now some c.in-Ok.ensures.1
+    is_shorter c.loop-rest.rest.now c.in_ok-rest.rest.now some c.in_ok-rest.ensures.1
 
-pub returns-in-Err : goal.returns-in-Err
-returns-in-Err c =
+pub returns-in_err-rest : goal.returns-in_err-rest
+returns-in_err-rest c =
     let some : 0 < length c.loop-rest.rest.now = search rules in
-    fails_so (length c.args.text.now) (state_of c.loop-rest.state) c.loop-rest.rest.now (outcome c.args.text.now) c.in-Err.stop some c.in-Err.ensures c.loop-rest.invariant.1
+    let p = err_from_is_err_and c.from_residual.result c.from_residual.ensures.1 in
+    rw (p.1, p.2) (fails_so (length c.args.text.now) (state_of c.loop-rest.state) c.loop-rest.rest.now (outcome c.args.text.now) _ some c.in_err-rest.ensures c.loop-rest.invariant.1)
 
 pub returns : goal.returns
 returns c =
