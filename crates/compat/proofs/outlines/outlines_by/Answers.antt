@@ -34,5 +34,5 @@ pub returns : goal.returns
 returns c =
     let order : IsOrder c.args.graph.now c.in-Some.order.items = rw c.in-Some.is at c.in_ok-order.ensures in
     let acyclic = subst HasNoCycle c.requires.references (no_cycle c.args.graph.now c.in-Some.order.items order) in
-    are_flattened c.args.drawings.now c.in_ok-flats.flats.items c.in_ok-outlines_of.field-0.0 c.in_ok-flats.ensures c.requires.named acyclic
+    are_flattened c.args.drawings.now c.in_ok-flats.flats.items c.in_ok-outlines_of.field-0 c.in_ok-flats.ensures c.requires.named acyclic
     (ap (fault_from 0) (sym c.as_slice-2.ensures.value) ∙ sym c.in_default-first_fault.ensures) c.in_ok-outlines_of.ensures

@@ -9,5 +9,5 @@ pub returns-clause-value : goal.returns-clause-value
 returns-clause-value c =
     let coordinate_lists = coordinates_of c.args.locations.now in
     let sound : model_fault coordinate_lists ≡ None = search rules in
-    let order : IsOrder coordinate_lists c.in_ok-sorted_numbers.field-0.0 = search rules in
-    order_value coordinate_lists c.in_ok-sorted_numbers.field-0.0 (coordinates_lengths (axes_of coordinate_lists) c.args.locations.now c.requires.lengths) sound order
+    let order : IsOrder coordinate_lists c.in_ok-sorted_numbers.field-0 = search rules in
+    order_value coordinate_lists c.in_ok-sorted_numbers.field-0 (coordinates_lengths (axes_of coordinate_lists) c.args.locations.now c.requires.lengths) sound order
