@@ -142,7 +142,7 @@ fn optional(alloc: Global, found: Option<i32>) -> Result<String, AllocError> {
     }
 }
 
-/// The kind, the item and the value of a fault, where its place is this one and all else is 0.
+/// The kind, the item and the value of a fault, where its offset is this one and all else is 0.
 fn fault(alloc: Global, spot: &Spot, at: u64) -> Result<String, AllocError> {
     if spot.at != at || spot.also != 0 || spot.second != 0 {
         return format!(in alloc; "at {} {} {}", spot.at, spot.also, spot.second);

@@ -8,15 +8,15 @@ use basics::{Kind, Stop, stop_at};
 use markup::Element;
 use std::alloc::Global;
 
-/// The stop at a fault of the element: its place is the element's offset, in bytes. Its item is empty.
+/// The stop at a fault of the element: its offset in bytes is the element's. Its item is empty.
 pub fn fault(alloc: Global, kind: Kind, element: &Element) -> Stop
     ensures { IsStop result (spot_of kind [] (at_of (plain element.now)) (pos 0)) }
 {
     stop_at(alloc, kind, "", element.offset(), 0)
 }
 
-/// The stop at a fault of an attribute of the element: its item is the attribute's name, its place the element's
-/// offset.
+/// The stop at a fault of an attribute of the element: its item is the attribute's name, its offset the
+/// element's.
 pub fn attribute_fault(alloc: Global, kind: Kind, name: &str, element: &Element) -> Stop
     ensures { IsStop result (spot_of kind name.now (at_of (plain element.now)) (pos 0)) }
 {

@@ -16,7 +16,7 @@ use Rattle.attributes.specs.Attributes.{needed, optional_whole}
 use Rattle.glif.specs.Numbers.{width, advance_widths}
 use Rattle.glif.specs.Glyphs.{shape_of, few, outline_of, nothing_seen, child_of, format_of, drawing_of}
 use Rattle.glif.specs.Limits.{IsContourWithin}
-use Rattle.glif.specs.Printed.{Number, Place, Written, number_text, value_of, printing, meaning, IsNumber, IsPlace, IsWritten, IsPrinted}
+use Rattle.glif.specs.Printed.{Number, PrintedPoint, Written, number_text, value_of, printing, meaning, IsNumber, IsPrintedPoint, IsWritten, IsPrinted}
 use Rattle.glif.specs.Printed as plain
 use Rattle.glif.specs.Texts.{drawing_of_text}
 use Rattle.glif.proofs.PrintedPoints.{whole_reads, contour_reads}
@@ -34,35 +34,35 @@ abbrev drawn_contours : List (List Point) → Shapes
 drawn_contours contours = record { contours = contours; components = [] }
 
 -- the element of a contour, after a line feed
-abbrev contour_tree : ℕ → List Place → Tree
+abbrev contour_tree : ℕ → List PrintedPoint → Tree
 contour_tree at ps = node (codes "contour") [] (trees_of (children_from (at + 1 + length (tag_then contour_tag (codes ">"))) (points_inside ps))) (own_text (points_inside ps)) (at + 1)
 
-shape_reads : (contours : List (List Point)) (at : ℕ) (ps : List Place) → All IsPlace ps → IsContourWithin (map plain.point_of ps) → shape_of (drawn_contours contours) (contour_tree at ps) ≡ Ok (drawn_contours (contours ++ map plain.point_of ps ∷ []))
+shape_reads : (contours : List (List Point)) (at : ℕ) (ps : List PrintedPoint) → All IsPrintedPoint ps → IsContourWithin (map plain.point_of ps) → shape_of (drawn_contours contours) (contour_tree at ps) ≡ Ok (drawn_contours (contours ++ map plain.point_of ps ∷ []))
 unfolding shape_of
-shape_reads contours at ps places within =
+shape_reads contours at ps printed within =
     let inside = at + 1 + length (tag_then contour_tag (codes ">")) in
-    rw (contour_reads (contour_tree at ps) inside ps (list_of_trees (children_from inside (points_inside ps))) places within) refl
+    rw (contour_reads (contour_tree at ps) inside ps (list_of_trees (children_from inside (points_inside ps))) printed within) refl
 
 -- where what follows a contour begins
-abbrev after : ℕ → List Place → ℕ
+abbrev after : ℕ → List PrintedPoint → ℕ
 after at ps = at + 1 + length (tag_then contour_tag (codes ">")) + length (inside_then (points_inside ps) (end_tag_then (codes "contour") [] []))
 
-abbrev contour_trees : ℕ → List (List Place) → List Tree
+abbrev contour_trees : ℕ → List (List PrintedPoint) → List Tree
 contour_trees at contours = children_from at (contours_inside contours)
 
 -- the first of a list, and then the others
 turn_step : {A S F : Type 0} (step : S → A → Result S F) (state next : S) (t : A) (ts : List A) (last : Result S F) → step state t ≡ Ok next → in_turn step next ts ≡ last → in_turn step state (t ∷ ts) ≡ last
 turn_step step state next t ts last one more = rw (one, more) refl
 
-shapes_read : (before : List (List Point)) (at : ℕ) (contours : List (List Place)) → All (All IsPlace) contours → All IsContourWithin (map (map plain.point_of) contours)
+shapes_read : (before : List (List Point)) (at : ℕ) (contours : List (List PrintedPoint)) → All (All IsPrintedPoint) contours → All IsContourWithin (map (map plain.point_of) contours)
     → in_turn shape_of (drawn_contours before) (contour_trees at contours) ≡ Ok (drawn_contours (before ++ map (map plain.point_of) contours))
-shapes_read before at [] places within = ap (λ contours. Ok (drawn_contours contours)) (sym (append-nil before))
-shapes_read before at (ps ∷ contours) places within =
+shapes_read before at [] printed within = ap (λ contours. Ok (drawn_contours contours)) (sym (append-nil before))
+shapes_read before at (ps ∷ contours) printed within =
     let points = map plain.point_of ps in
     let later = map (map plain.point_of) contours in
     turn_step shape_of (drawn_contours before) (drawn_contours (before ++ points ∷ [])) (contour_tree at ps) (contour_trees (after at ps) contours) (Ok (drawn_contours (before ++ points ∷ later)))
-    (shape_reads before at ps (All-head (All IsPlace) ps contours places) (All-head IsContourWithin points later within))
-    (shapes_read (before ++ points ∷ []) (after at ps) contours (All-tail (All IsPlace) ps contours places) (All-tail IsContourWithin points later within) ∙
+    (shape_reads before at ps (All-head (All IsPrintedPoint) ps contours printed) (All-head IsContourWithin points later within))
+    (shapes_read (before ++ points ∷ []) (after at ps) contours (All-tail (All IsPrintedPoint) ps contours printed) (All-tail IsContourWithin points later within) ∙
     ap (λ cs. Ok (drawn_contours cs)) (append_assoc before (points ∷ []) later))
 
 -- ---- the outline
@@ -70,11 +70,11 @@ shapes_read before at (ps ∷ contours) places within =
 few_enough : (tree : Tree) (contours : List (List Point)) → sum_by length contours ≤ 4000 → few tree (drawn_contours contours) ≡ Ok (drawn_contours contours)
 few_enough tree contours enough = rw (le-leb (sum_by length contours) 4000 enough) refl
 
-outline_reads : (tree : Tree) (at : ℕ) (contours : List (List Place)) → children_of tree ≡ contour_trees at contours → All (All IsPlace) contours → All IsContourWithin (map (map plain.point_of) contours)
+outline_reads : (tree : Tree) (at : ℕ) (contours : List (List PrintedPoint)) → children_of tree ≡ contour_trees at contours → All (All IsPrintedPoint) contours → All IsContourWithin (map (map plain.point_of) contours)
     → sum_by length (map (map plain.point_of) contours) ≤ 4000 → outline_of tree ≡ Ok (drawn_contours (map (map plain.point_of) contours))
 unfolding outline_of
-outline_reads tree at contours inside places within enough =
-    rw (inside, shapes_read [] at contours places within) (few_enough tree (map (map plain.point_of) contours) enough)
+outline_reads tree at contours inside printed within enough =
+    rw (inside, shapes_read [] at contours printed within) (few_enough tree (map (map plain.point_of) contours) enough)
 
 -- ---- the glyph
 
@@ -89,14 +89,14 @@ advance_reads : (at : ℕ) (n : Number) → IsNumber n → pos 0 ≤ℤ value_of
 unfolding child_of width optional_whole
 advance_reads at n is low high = rw (whole_reads advance_widths (codes "width") (advance_tree at n) n is low high) refl
 
-abbrev outline_tree : ℕ → ℕ → List (List Place) → Tree
+abbrev outline_tree : ℕ → ℕ → List (List PrintedPoint) → Tree
 outline_tree at within contours = node (codes "outline") [] (trees_of (contour_trees within contours)) (own_text (contours_inside contours)) at
 
-outline_child : (width : ℤ) (at within : ℕ) (contours : List (List Place)) (shapes : Shapes) → outline_of (outline_tree at within contours) ≡ Ok shapes → child_of (seen (Some width) None) (outline_tree at within contours) ≡ Ok (seen (Some width) (Some shapes))
+outline_child : (width : ℤ) (at within : ℕ) (contours : List (List PrintedPoint)) (shapes : Shapes) → outline_of (outline_tree at within contours) ≡ Ok shapes → child_of (seen (Some width) None) (outline_tree at within contours) ≡ Ok (seen (Some width) (Some shapes))
 unfolding child_of
 outline_child width at within contours shapes reads = rw reads refl
 
--- the element of a plain drawing, whose children begin at a place
+-- the element of a plain drawing, whose children begin at an offset
 abbrev glyph_tree : Written → ℕ → List ℕ → Tree
 glyph_tree w within text = node (codes "glyph") ((codes "name", w.name) ∷ (codes "format", codes "2") ∷ []) (trees_of (children_from within (glyph_inside w))) text 0
 

@@ -14,7 +14,7 @@ use Rattle.attributes.specs.declared.limits.Limits.{Limits}
 use Rattle.glif.specs.Numbers.{coordinate, coordinates}
 use Rattle.glif.specs.Contours.{point_of, points_of, type_of, is_move, is_on, ends_on, line_after_off, is_passed_over, closed, contour_of}
 use Rattle.glif.specs.Limits.{IsPointWithin, IsContourWithin}
-use Rattle.glif.specs.Printed.{Number, Place, number_text, value_of, IsNumber, IsPlace}
+use Rattle.glif.specs.Printed.{Number, PrintedPoint, number_text, value_of, IsNumber, IsPrintedPoint}
 use Rattle.glif.specs.Printed as plain
 use Rattle.glif.proofs.PrintedNumbers.{number_reads}
 use Rattle.glif.proofs.PrintedTexts.{point_tag, points_inside}
@@ -40,10 +40,10 @@ coordinate_reads name tree n is found low high = rw found (whole_reads coordinat
 
 -- ---- one point
 
-abbrev point_tree : ℕ → Place → Tree
+abbrev point_tree : ℕ → PrintedPoint → Tree
 point_tree at p = node (codes "point") ((codes "x", number_text p.0) ∷ (codes "y", number_text p.1) ∷ (codes "type", codes "line") ∷ []) no_trees [] at
 
-point_reads : (first : Bool) (at : ℕ) (p : Place) → IsPlace p → IsPointWithin (plain.point_of p) → point_of first (point_tree at p) ≡ Ok (plain.point_of p)
+point_reads : (first : Bool) (at : ℕ) (p : PrintedPoint) → IsPrintedPoint p → IsPointWithin (plain.point_of p) → point_of first (point_tree at p) ≡ Ok (plain.point_of p)
 unfolding point_of
 point_reads first at p is within =
     let tree = point_tree at p in
@@ -51,34 +51,34 @@ point_reads first at p is within =
 
 -- ---- all points of a contour
 
--- the elements of the points, from a place on
-abbrev point_trees : ℕ → List Place → List Tree
+-- the elements of the points, from an offset on
+abbrev point_trees : ℕ → List PrintedPoint → List Tree
 point_trees at ps = children_from at (points_inside ps)
 
 -- where the element after a point begins
-abbrev after : ℕ → Place → ℕ
+abbrev after : ℕ → PrintedPoint → ℕ
 after at p = at + 1 + length (tag_then (point_tag (number_text p.0) (number_text p.1)) (codes "/>"))
 
 each_step : {A B F : Type 0} (f : A → Result B F) (t : A) (ts : List A) (x : B) (xs : List B) → f t ≡ Ok x → each f ts ≡ Ok xs → each f (t ∷ ts) ≡ Ok (x ∷ xs)
 each_step f t ts x xs one more = rw (one, more) refl
 
-each_reads : (at : ℕ) (ps : List Place) → All IsPlace ps → All IsPointWithin (map plain.point_of ps) → each (point_of false) (point_trees at ps) ≡ Ok (map plain.point_of ps)
-each_reads at [] places within = refl
-each_reads at (p ∷ ps) places within =
+each_reads : (at : ℕ) (ps : List PrintedPoint) → All IsPrintedPoint ps → All IsPointWithin (map plain.point_of ps) → each (point_of false) (point_trees at ps) ≡ Ok (map plain.point_of ps)
+each_reads at [] printed within = refl
+each_reads at (p ∷ ps) printed within =
     let tail = All-tail IsPointWithin (plain.point_of p) (map plain.point_of ps) within in
     each_step (point_of false) (point_tree (at + 1) p) (point_trees (after at p) ps) (plain.point_of p) (map plain.point_of ps)
-    (point_reads false (at + 1) p (All-head IsPlace p ps places) (All-head IsPointWithin (plain.point_of p) (map plain.point_of ps) within))
-    (each_reads (after at p) ps (All-tail IsPlace p ps places) tail)
+    (point_reads false (at + 1) p (All-head IsPrintedPoint p ps printed) (All-head IsPointWithin (plain.point_of p) (map plain.point_of ps) within))
+    (each_reads (after at p) ps (All-tail IsPrintedPoint p ps printed) tail)
 
 points_step : (t : Tree) (ts : List Tree) (x : Point) (xs : List Point) → point_of true t ≡ Ok x → each (point_of false) ts ≡ Ok xs → points_of (t ∷ ts) ≡ Ok (x ∷ xs)
 points_step t ts x xs one more = rw (one, more) refl
 
-points_reads : (at : ℕ) (p : Place) (ps : List Place) → All IsPlace (p ∷ ps) → All IsPointWithin (map plain.point_of (p ∷ ps)) → points_of (point_trees at (p ∷ ps)) ≡ Ok (map plain.point_of (p ∷ ps))
-points_reads at p ps places within =
+points_reads : (at : ℕ) (p : PrintedPoint) (ps : List PrintedPoint) → All IsPrintedPoint (p ∷ ps) → All IsPointWithin (map plain.point_of (p ∷ ps)) → points_of (point_trees at (p ∷ ps)) ≡ Ok (map plain.point_of (p ∷ ps))
+points_reads at p ps printed within =
     let tail = All-tail IsPointWithin (plain.point_of p) (map plain.point_of ps) within in
     points_step (point_tree (at + 1) p) (point_trees (after at p) ps) (plain.point_of p) (map plain.point_of ps)
-    (point_reads true (at + 1) p (All-head IsPlace p ps places) (All-head IsPointWithin (plain.point_of p) (map plain.point_of ps) within))
-    (each_reads (after at p) ps (All-tail IsPlace p ps places) tail)
+    (point_reads true (at + 1) p (All-head IsPrintedPoint p ps printed) (All-head IsPointWithin (plain.point_of p) (map plain.point_of ps) within))
+    (each_reads (after at p) ps (All-tail IsPrintedPoint p ps printed) tail)
 
 -- ---- what is tested of a contour
 
@@ -86,35 +86,35 @@ not_passed_over : (tree : Tree) (trees : List Tree) → is_move (type_of tree) �
 not_passed_over tree [] still = still
 not_passed_over tree (other ∷ trees) still = refl
 
-contour_is_read : (at : ℕ) (p : Place) (ps : List Place) → is_passed_over (filter (is_named (codes "point")) (point_trees at (p ∷ ps))) ≡ false
+contour_is_read : (at : ℕ) (p : PrintedPoint) (ps : List PrintedPoint) → is_passed_over (filter (is_named (codes "point")) (point_trees at (p ∷ ps))) ≡ false
 contour_is_read at p ps = not_passed_over (point_tree (at + 1) p) (filter (is_named (codes "point")) (point_trees (after at p) ps)) refl
 
-all_on : (ps : List Place) (k : ℕ) → is_on (slice_get (map plain.point_of ps) k) ≡ true
+all_on : (ps : List PrintedPoint) (k : ℕ) → is_on (slice_get (map plain.point_of ps) k) ≡ true
 all_on [] k = refl
 all_on (p ∷ ps) zero = refl
 all_on (p ∷ ps) (suc k) = all_on ps k
 
-no_line_after_off : (at : ℕ) (ps : List Place) → line_after_off true (point_trees at ps) (map plain.point_of ps) ≡ None
+no_line_after_off : (at : ℕ) (ps : List PrintedPoint) → line_after_off true (point_trees at ps) (map plain.point_of ps) ≡ None
 no_line_after_off at [] = refl
 no_line_after_off at (p ∷ ps) = no_line_after_off (after at p) ps
 
 -- no line of the contour begins off the curve
-contour_lined : (at : ℕ) (ps : List Place) → line_after_off (ends_on (map plain.point_of ps)) (point_trees at ps) (map plain.point_of ps) ≡ None
+contour_lined : (at : ℕ) (ps : List PrintedPoint) → line_after_off (ends_on (map plain.point_of ps)) (point_trees at ps) (map plain.point_of ps) ≡ None
 contour_lined at ps =
     ap (λ on. line_after_off on (point_trees at ps) (map plain.point_of ps)) (all_on ps (length (map plain.point_of ps) - 1)) ∙ no_line_after_off at ps
 
-contour_closed : (tree : Tree) (at : ℕ) (p : Place) (ps : List Place) → children_of tree ≡ point_trees at (p ∷ ps) → length (map plain.point_of (p ∷ ps)) ≤ 1024 → closed tree (map plain.point_of (p ∷ ps)) ≡ Ok (map plain.point_of (p ∷ ps))
+contour_closed : (tree : Tree) (at : ℕ) (p : PrintedPoint) (ps : List PrintedPoint) → children_of tree ≡ point_trees at (p ∷ ps) → length (map plain.point_of (p ∷ ps)) ≤ 1024 → closed tree (map plain.point_of (p ∷ ps)) ≡ Ok (map plain.point_of (p ∷ ps))
 unfolding closed
 contour_closed tree at p ps inside few = rw (le-leb (length (map plain.point_of (p ∷ ps))) 1024 few, inside, contour_lined at (p ∷ ps)) refl
 
 -- ---- a contour
 
-some_contour : (tree : Tree) (at : ℕ) (p : Place) (ps : List Place) → children_of tree ≡ point_trees at (p ∷ ps) → All IsPlace (p ∷ ps) → IsContourWithin (map plain.point_of (p ∷ ps)) → contour_of tree ≡ Ok (Some (map plain.point_of (p ∷ ps)))
+some_contour : (tree : Tree) (at : ℕ) (p : PrintedPoint) (ps : List PrintedPoint) → children_of tree ≡ point_trees at (p ∷ ps) → All IsPrintedPoint (p ∷ ps) → IsContourWithin (map plain.point_of (p ∷ ps)) → contour_of tree ≡ Ok (Some (map plain.point_of (p ∷ ps)))
 unfolding contour_of
-some_contour tree at p ps inside places within =
-    rw (inside, contour_is_read at p ps, points_reads at p ps places within.points_within, contour_closed tree at p ps inside within.greatest) refl
+some_contour tree at p ps inside printed within =
+    rw (inside, contour_is_read at p ps, points_reads at p ps printed within.points_within, contour_closed tree at p ps inside within.greatest) refl
 
 -- the element of a contour is read as its points
-pub contour_reads : (tree : Tree) (at : ℕ) (ps : List Place) → children_of tree ≡ point_trees at ps → All IsPlace ps → IsContourWithin (map plain.point_of ps) → contour_of tree ≡ Ok (Some (map plain.point_of ps))
-contour_reads tree at [] inside places within = absurd (omega (arith, within.least))
-contour_reads tree at (p ∷ ps) inside places within = some_contour tree at p ps inside places within
+pub contour_reads : (tree : Tree) (at : ℕ) (ps : List PrintedPoint) → children_of tree ≡ point_trees at ps → All IsPrintedPoint ps → IsContourWithin (map plain.point_of ps) → contour_of tree ≡ Ok (Some (map plain.point_of ps))
+contour_reads tree at [] inside printed within = absurd (omega (arith, within.least))
+contour_reads tree at (p ∷ ps) inside printed within = some_contour tree at p ps inside printed within

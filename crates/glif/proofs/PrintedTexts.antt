@@ -17,7 +17,7 @@ use Rattle.markup_rules.specs.Syntax as syntax
 use Rattle.markup_rules.specs.Tree.{Tree}
 use Rattle.markup_rules.specs.Outcome.{outcome}
 use Rattle.markup_rules.proofs.CompleteTexts.{tree_again}
-use Rattle.glif.specs.Printed.{Number, Place, Written, number_text, point_text, contour_text, printing, IsNumber, IsPlace, IsWritten}
+use Rattle.glif.specs.Printed.{Number, PrintedPoint, Written, number_text, point_text, contour_text, printing, IsNumber, IsPrintedPoint, IsWritten}
 
 -- ---- bytes of names and values
 
@@ -128,7 +128,7 @@ number_bare n is = sign_cases n.negative
 -- ---- points
 
 -- what stands in a contour: each point after a line feed, and one at the end
-abbrev pub points_inside : List Place → Inside
+abbrev pub points_inside : List PrintedPoint → Inside
 points_inside [] = only (run (codes "\n"))
 points_inside (p ∷ ps) = then_empty (run (codes "\n")) (point_tag (number_text p.0) (number_text p.1)) (points_inside ps)
 
@@ -137,11 +137,11 @@ line_feed =
     let low : 10 < 128 = omega arith in
     record { each = refl; utf8 = is_utf8-from_IsUtf8 (codes "\n") (IsUtf8-from_ascii (codes "\n") (IsAscii-cons 10 [] low IsAscii-nil)) }
 
-points_proper : (room : ℕ) (ps : List Place) → All IsPlace ps → IsInside (suc room) (points_inside ps)
-points_proper room [] places = line_feed
-points_proper room (p ∷ ps) places =
-    let place = All-head IsPlace p ps places in
-    (line_feed, point_proper (number_text p.0) (number_text p.1) (number_bare p.0 place.0) (number_bare p.1 place.1), points_proper room ps (All-tail IsPlace p ps places))
+points_proper : (room : ℕ) (ps : List PrintedPoint) → All IsPrintedPoint ps → IsInside (suc room) (points_inside ps)
+points_proper room [] printed = line_feed
+points_proper room (p ∷ ps) printed =
+    let own = All-head IsPrintedPoint p ps printed in
+    (line_feed, point_proper (number_text p.0) (number_text p.1) (number_bare p.0 own.0) (number_bare p.1 own.1), points_proper room ps (All-tail IsPrintedPoint p ps printed))
 
 abbrev point_line : List ℕ → List ℕ → List ℕ
 point_line x y = codes "<point x=\"" ++ (x ++ (codes "\" y=\"" ++ (y ++ codes "\" type=\"line\"/>\n")))
@@ -149,7 +149,7 @@ point_line x y = codes "<point x=\"" ++ (x ++ (codes "\" y=\"" ++ (y ++ codes "\
 point_spelled : (x y rest : List ℕ) → point_line x y ++ rest ≡ tag_then (point_tag x y) (codes "/>\n" ++ rest)
 point_spelled x y rest = simp append_assoc
 
-points_spelled : (ps : List Place) (rest : List ℕ) → inside_then (points_inside ps) rest ≡ 10 ∷ (flat_map point_text ps ++ rest)
+points_spelled : (ps : List PrintedPoint) (rest : List ℕ) → inside_then (points_inside ps) rest ≡ 10 ∷ (flat_map point_text ps ++ rest)
 points_spelled [] rest = refl
 points_spelled (p ∷ ps) rest =
     let tag = point_tag (number_text p.0) (number_text p.1) in
@@ -162,16 +162,16 @@ abbrev pub contour_tag : Tag
 contour_tag = tag (codes "contour") []
 
 -- what stands in the outline: each contour after a line feed, and one at the end
-abbrev pub contours_inside : List (List Place) → Inside
+abbrev pub contours_inside : List (List PrintedPoint) → Inside
 contours_inside [] = only (run (codes "\n"))
 contours_inside (ps ∷ contours) = then_child (run (codes "\n")) contour_tag (points_inside ps) [] (contours_inside contours)
 
-contours_proper : (room : ℕ) (contours : List (List Place)) → All (All IsPlace) contours → IsInside (suc (suc room)) (contours_inside contours)
-contours_proper room [] places = line_feed
-contours_proper room (ps ∷ contours) places =
-    (line_feed, tag_proper (codes "contour") [] (letters_name (codes "contour") refl refl) tt, points_proper room ps (All-head (All IsPlace) ps contours places), refl, contours_proper room contours (All-tail (All IsPlace) ps contours places))
+contours_proper : (room : ℕ) (contours : List (List PrintedPoint)) → All (All IsPrintedPoint) contours → IsInside (suc (suc room)) (contours_inside contours)
+contours_proper room [] printed = line_feed
+contours_proper room (ps ∷ contours) printed =
+    (line_feed, tag_proper (codes "contour") [] (letters_name (codes "contour") refl refl) tt, points_proper room ps (All-head (All IsPrintedPoint) ps contours printed), refl, contours_proper room contours (All-tail (All IsPrintedPoint) ps contours printed))
 
-contours_spelled : (contours : List (List Place)) (rest : List ℕ) → inside_then (contours_inside contours) rest ≡ 10 ∷ (flat_map contour_text contours ++ rest)
+contours_spelled : (contours : List (List PrintedPoint)) (rest : List ℕ) → inside_then (contours_inside contours) rest ≡ 10 ∷ (flat_map contour_text contours ++ rest)
 contours_spelled [] rest = refl
 contours_spelled (ps ∷ contours) rest =
     let last = flat_map contour_text contours ++ rest in

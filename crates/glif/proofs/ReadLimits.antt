@@ -67,7 +67,7 @@ points_ok tree trees =
     (λ point p. then_ok (All IsPointWithin) AreWithin (each (point_of false) trees) _ (each_ok IsPointWithin (point_of false) (point_ok false) trees)
     (λ points ps. record { some = omega arith; within = All-cons IsPointWithin point points p ps }))
 
-lined_ok : (P : List Point → Type 0) (points : List Point) (place : Option ℕ) → P points → IfOk (lined points place) P
+lined_ok : (P : List Point → Type 0) (points : List Point) (found : Option ℕ) → P points → IfOk (lined points found) P
 lined_ok P points None p = p
 lined_ok P points (Some at) p = tt
 

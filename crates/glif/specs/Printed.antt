@@ -1,5 +1,5 @@
--- Plain drawings: files of fixed lines, with a name, an advance width and the points of contours in their
--- places. Each is the text of something written, which has a meaning and keeps conditions. The text isn't
+-- Plain drawings: files of fixed lines, with a name, an advance width and the points of contours each in a
+-- line of its own. Each is the text of something written, which has a meaning and keeps conditions. The text isn't
 -- a function of the meaning, since 7 is written 7 and 007.
 use Rattle.std.specs.Prelude.{◌≡◌, ℕ, ◌≤◌, ℤ, pos, neg_ℤ, Bool, true, List, [], ◌++◌, length, map, All, codes, flat_map, if◌then◌else◌}
 use Rattle.std.specs.List.{AllPass}
@@ -15,24 +15,24 @@ pub record Number : Type 0 where
   pub digits : List ℕ
 
 -- a point as it is written: x and then y
-abbrev pub Place : Type 0
-Place = Number × Number
+abbrev pub PrintedPoint : Type 0
+PrintedPoint = Number × Number
 
 -- a plain drawing as it is written
 pub record Written : Type 0 where
   pub name : List ℕ
   pub width : Number
-  pub contours : List (List Place)
+  pub contours : List (List PrintedPoint)
 
 -- ---- the text
 
 abbrev pub number_text : Number → List ℕ
 number_text n = if n.negative then codes "-" ++ n.digits else n.digits
 
-abbrev pub point_text : Place → List ℕ
+abbrev pub point_text : PrintedPoint → List ℕ
 point_text p = codes "<point x=\"" ++ (number_text p.0 ++ (codes "\" y=\"" ++ (number_text p.1 ++ codes "\" type=\"line\"/>\n")))
 
-abbrev pub contour_text : List Place → List ℕ
+abbrev pub contour_text : List PrintedPoint → List ℕ
 contour_text ps = codes "<contour>\n" ++ (flat_map point_text ps ++ codes "</contour>\n")
 
 abbrev pub printing : Written → List ℕ
@@ -45,7 +45,7 @@ printing w =
 abbrev pub value_of : Number → ℤ
 value_of n = if n.negative then neg_ℤ (pos (digits_value 10 n.digits)) else pos (digits_value 10 n.digits)
 
-abbrev pub point_of : Place → Point
+abbrev pub point_of : PrintedPoint → Point
 point_of p = record { x = value_of p.0; y = value_of p.1; on = true }
 
 abbrev pub meaning : Written → Drawing
@@ -68,14 +68,14 @@ pub record IsRun (class : ℕ → Bool) (most : ℕ) (bytes : List ℕ) : Type 0
 abbrev pub IsNumber : Number → Type 0
 IsNumber n = IsRun is_ascii_digit 5 n.digits
 
-abbrev pub IsPlace : Place → Type 0
-IsPlace p = IsNumber p.0 × IsNumber p.1
+abbrev pub IsPrintedPoint : PrintedPoint → Type 0
+IsPrintedPoint p = IsNumber p.0 × IsNumber p.1
 
 -- a name of 1 to 63 ASCII letters, proper numbers, and a drawing within limits
 pub record IsWritten (w : Written) : Type 0 where
   pub named : IsRun is_ascii_alphabetic 63 w.name
   pub wide : IsNumber w.width
-  pub placed : All (All IsPlace) w.contours
+  pub placed : All (All IsPrintedPoint) w.contours
   pub limits : IsWithinLimits (meaning w).outline
 
 -- the text is that of a plain drawing, and this is the drawing

@@ -6,7 +6,7 @@ use std::process::Abort;
 use std::test::Fail;
 
 // A row is a text, and what reading it answers: the drawing, or the kind of the fault, its item and its value.
-// The fault's place is the mark `@`, which isn't part of the text, or 0 where no mark stands.
+// The fault's offset is that of the mark `@`, which isn't part of the text, or 0 where no mark stands.
 
 /// Whole files that have a fault at their root.
 const ROOTS: [(&str, &str); 21] = [
@@ -527,7 +527,7 @@ fn shown(alloc: Global, drawing: &Drawing) -> Result<String, AllocError> {
     Ok(shown)
 }
 
-/// The kind, the item and the value of a fault, where its place is this one and all else is 0.
+/// The kind, the item and the value of a fault, where its offset is this one and all else is 0.
 fn shown_fault(alloc: Global, spot: &Spot, at: usize) -> Result<String, AllocError> {
     if spot.at != at as u64 || spot.also != 0 || spot.second != 0 {
         return format!(in alloc; "at {} {} {}", spot.at, spot.also, spot.second);

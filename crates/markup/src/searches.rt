@@ -3,7 +3,7 @@ ghost use Rattle.basics.specs.Bytes as runs;
 
 use memchr::memchr;
 
-/// The first place of a byte.
+/// The first index of a byte.
 #[tactic(auto, using(crate::proofs::ByteSearch::index_is, crate::proofs::ByteSearch::index_within))]
 pub(crate) fn index_of(byte: u8, bytes: &[u8]) -> Option<usize>
     ensures index { result ≡ runs.index_of byte bytes.now }
@@ -21,7 +21,7 @@ pub(crate) fn begins(mark: &[u8], bytes: &[u8]) -> bool
     bytes.starts_with(mark)
 }
 
-/// The first place at which the mark stands.
+/// The first index at which the mark stands.
 pub(crate) fn first_index(mark: &[u8], bytes: &[u8]) -> Option<usize>
     ensures index { result ≡ runs.first_index (runs.begins mark.now) bytes.now }
     ensures within { IfSome result (λ index. index + length mark.now ≤ length bytes.now) }

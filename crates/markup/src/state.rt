@@ -40,7 +40,7 @@ pub(crate) struct State<'a> {
     room: Vec<(Name, Name)>,
 }
 
-/// The stop at a fault, which has nothing but its kind and its place.
+/// The stop at a fault, which has nothing but its kind and its offset.
 fn stop(alloc: Global, kind: Kind, at: usize) -> Stop
     ensures { IsStop result (spot kind at) }
 {
@@ -212,7 +212,7 @@ impl<'a> State<'a> {
         Ok(())
     }
 
-    /// Takes a right item at a place.
+    /// Takes a right item that stands at this offset.
     fn take(&mut self, alloc: Global, at: u64, markup: Markup<'a>) -> Result<(), NoMemory>
         ensures { OnOk result (state_of self.new ≡ changed at (markup_view markup.entry) (state_of self.old)) }
     {

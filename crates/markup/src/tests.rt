@@ -8,7 +8,7 @@ use std::fmt::Write;
 use std::process::Abort;
 use std::test::Fail;
 
-/// Right texts, with the tree of each: name, `@` and place, attributes, own text in bars, children in braces.
+/// Right texts, with the tree of each: name, `@` and offset, attributes, own text in bars, children in braces.
 const TREES: [(&str, &str); 24] = [
     ("<a/>", "a@0||{}"),
     ("<a></a >", "a@0||{}"),
@@ -45,7 +45,7 @@ const TREES: [(&str, &str); 24] = [
     ),
 ];
 
-/// Texts without a tree, with the one fault of each and its place.
+/// Texts without a tree, with the one fault of each and its offset.
 const FAULTS: [(&[u8], Kind, u64); 80] = [
     (b"", Kind::Unfinished, 0),
     (b" ", Kind::Unfinished, 1),

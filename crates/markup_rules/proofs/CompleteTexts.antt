@@ -92,7 +92,7 @@ after_step total root is_declared (and_aside blanks a more) is =
     ap (λ bs. rest_from total (state [] root is_declared) (blanks ++ bs)) (aside_prefix a left) ∙ (blanks_step total root is_declared blanks (aside_tail a left) is.0 ∙
     (ap (rest_from total (state [] root is_declared)) (sym (aside_prefix a left)) ∙ (aside_step total (state [] root is_declared) a left is.1 ∙ after_step total root is_declared more is.2)))
 
--- whether a document type stands in prefix
+-- whether a document type stands before
 abbrev has_doctype : Prolog → Bool
 has_doctype (undeclared o) = false
 has_doctype (declared b d o) = true
@@ -119,9 +119,9 @@ root_step total is_declared (full_root t inside blanks) rest is at e =
     let within_text = inside_then inside after in
     let within = at + length (tag_then t (codes ">")) in
     let found : total - length (tag_then t (codes ">" ++ within_text)) ≡ at = omega arith in
-    let place : within + length within_text ≡ total = omega (arith, e, tag_length t (codes ">" ++ within_text), tag_length t (codes ">")) in
+    let sum : within + length within_text ≡ total = omega (arith, e, tag_length t (codes ">" ++ within_text), tag_length t (codes ">")) in
     start_step total [] is_declared t within_text is.0 (omega arith) ∙ (ap (λ n. rest_from total (state (begun n (opening_of t) ∷ []) None is_declared) within_text) found ∙
-    (inside_reads 63 inside is.1 total within (begun at (opening_of t)) [] is_declared (47 ∷ (t.name ++ (blanks ++ (62 ∷ rest)))) (omega arith) place ∙
+    (inside_reads 63 inside is.1 total within (begun at (opening_of t)) [] is_declared (47 ∷ (t.name ++ (blanks ++ (62 ∷ rest)))) (omega arith) sum ∙
     finish_step total (grown (begun at (opening_of t)) within inside) [] is_declared blanks rest is.0.named is.2))
 
 -- ---- the byte order mark
@@ -177,8 +177,8 @@ written_again mark p r o marked is_prolog is_root is_outside =
     let left = outside_then o [] in
     let clear = subst (λ bs. no_mark (prolog_then p bs)) (sym (root_prefix r left)) (prolog_no_mark p (root_tail r left) is_prolog) in
     let at = length (mark ++ prolog_then p []) in
-    let place : at + length (root_then r left) ≡ length text = omega (arith, length-append mark (whole p r o), length-append mark (prolog_then p []), prolog_length p (root_then r left)) in
-    sym (rest_begins text) ∙ (ap (rest_from (length text) initial) (mark_again mark (whole p r o) marked clear) ∙ whole_reads (length text) p r o is_prolog is_root is_outside at place)
+    let sum : at + length (root_then r left) ≡ length text = omega (arith, length-append mark (whole p r o), length-append mark (prolog_then p []), prolog_length p (root_then r left)) in
+    sym (rest_begins text) ∙ (ap (rest_from (length text) initial) (mark_again mark (whole p r o) marked clear) ∙ whole_reads (length text) p r o is_prolog is_root is_outside at sum)
 
 pub tree_again : (text : List ℕ) (tree : Tree) → IsTree text tree → outcome text ≡ Ok tree
 tree_again text tree is =

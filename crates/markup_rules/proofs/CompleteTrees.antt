@@ -42,9 +42,9 @@ pub record IsRight (s : State) (bytes : List ℕ) (item : Item) (m : Markup) : T
 
 no_fault : (total : ℕ) (s : State) (b : ℕ) (bytes rest : List ℕ) (item : Item) (m : Markup) → item_at (b ∷ bytes) ≡ cut item rest → IsRight s (b ∷ bytes) item m → item_fault total (context_of s) (entry_at (b ∷ bytes)) ≡ None
 no_fault total s b bytes rest item m e right =
-    let place = context_of s in
-    let has_end : lacks_end place (item_at (b ∷ bytes)).0 ≡ false = ap (λ (c : Cut). lacks_end place c.0) e ∙ right.has_end in
-    let allowed : is_allowed_at place (markup_of (item_at (b ∷ bytes)).0) ≡ true = ap (λ (c : Cut). is_allowed_at place (markup_of c.0)) e ∙ (ap (is_allowed_at place) right.is ∙ right.allowed) in
+    let context = context_of s in
+    let has_end : lacks_end context (item_at (b ∷ bytes)).0 ≡ false = ap (λ (c : Cut). lacks_end context c.0) e ∙ right.has_end in
+    let allowed : is_allowed_at context (markup_of (item_at (b ∷ bytes)).0) ≡ true = ap (λ (c : Cut). is_allowed_at context (markup_of c.0)) e ∙ (ap (is_allowed_at context) right.is ∙ right.allowed) in
     rw (right.shallow, has_end, allowed) refl
 
 pub take_item : (total : ℕ) (s : State) (b : ℕ) (bytes rest : List ℕ) (item : Item) (m : Markup) → item_at (b ∷ bytes) ≡ cut item rest → IsRight s (b ∷ bytes) item m
@@ -164,8 +164,8 @@ aside_reads room c a more is is_aside later total at f frames declared rest few 
     let left = inside_then more (60 ∷ rest) in
     let next = at + length (content_then c (aside_then a [])) in
     let g = texted_frame f (content_meaning c) in
-    let place : next + length left ≡ total = omega (arith, e, content_length c (aside_then a left), content_length c (aside_then a []), aside_length a left) in
-    content_before_aside total f frames declared c a left is is_aside ∙ (later total next g frames declared rest few place ∙
+    let sum : next + length left ≡ total = omega (arith, e, content_length c (aside_then a left), content_length c (aside_then a []), aside_length a left) in
+    content_before_aside total f frames declared c a left is is_aside ∙ (later total next g frames declared rest few sum ∙
     same_frame total f frames declared (60 ∷ rest) (f.children ++ children_from next more) (f.children ++ children_from next more) ((f.text ++ content_meaning c) ++ own_text more) (f.text ++ (content_meaning c ++ own_text more)) refl (append_assoc f.text (content_meaning c) (own_text more)))
 
 -- a child among others
@@ -185,10 +185,10 @@ empty_reads room c t more is is_tag later total at f frames declared rest few e 
     let next = here + length (tag_then t (codes "/>")) in
     let tree = node t.name (tag_attributes t) (trees_of []) [] here in
     let found : total - length (tag_then t (codes "/>" ++ left)) ≡ here = omega (arith, e, content_length c (tag_then t (codes "/>" ++ left))) in
-    let place : next + length left ≡ total = omega (arith, e, content_length c (tag_then t (codes "/>" ++ left)), tag_length t (codes "/>" ++ left), tag_length t (codes "/>")) in
+    let sum : next + length left ≡ total = omega (arith, e, content_length c (tag_then t (codes "/>" ++ left)), tag_length t (codes "/>" ++ left), tag_length t (codes "/>")) in
     content_step total f frames declared c tail is ∙ (empty_step total (texted_frame f (content_meaning c) ∷ frames) declared t left is_tag (omega arith) ∙
     (ap (λ n. rest_from total (state (with_child f (content_meaning c) (node t.name (tag_attributes t) (trees_of []) [] n) ∷ frames) None declared) left) found ∙
-    (later total next (with_child f (content_meaning c) tree) frames declared rest few place ∙ child_end total f frames declared (60 ∷ rest) (content_meaning c) (own_text more) tree (children_from next more))))
+    (later total next (with_child f (content_meaning c) tree) frames declared rest few sum ∙ child_end total f frames declared (60 ∷ rest) (content_meaning c) (own_text more) tree (children_from next more))))
 
 child_reads : (room : ℕ) (c : Content) (t : Tag) (inside : Inside) (blanks : List ℕ) (more : Inside) → IsContent c → IsTag t → Reads room inside → list_all is_blank blanks ≡ true → Reads (suc room) more → Reads (suc room) (then_child c t inside blanks more)
 child_reads room c t inside blanks more is is_tag inner blank later total at f frames declared rest few e =
@@ -203,12 +203,12 @@ child_reads room c t inside blanks more is is_tag inner blank later total at f f
     let tree = node t.name (tag_attributes t) (trees_of (children_from within inside)) (own_text inside) here in
     let found : total - length (tag_then t (codes ">" ++ within_text)) ≡ here = omega (arith, e, content_length c (tag_then t (codes ">" ++ within_text))) in
     let inner_context : within + length within_text ≡ total = omega (arith, e, content_length c (tag_then t (codes ">" ++ within_text)), tag_length t (codes ">" ++ within_text), tag_length t (codes ">")) in
-    let place : next + length left ≡ total = omega (arith, inner_context, inside_length inside after, inside_length inside (end_tag_then t.name blanks []), end_tag_length t.name blanks left) in
+    let sum : next + length left ≡ total = omega (arith, inner_context, inside_length inside after, inside_length inside (end_tag_then t.name blanks []), end_tag_length t.name blanks left) in
     content_step total f frames declared c tail is ∙ (start_step total (g ∷ frames) declared t within_text is_tag (omega arith) ∙
     (ap (λ n. rest_from total (state (begun n (opening_of t) ∷ (g ∷ frames)) None declared) within_text) found ∙
     (inner total within (begun here (opening_of t)) (g ∷ frames) declared (47 ∷ (t.name ++ (blanks ++ (62 ∷ left)))) (omega arith) inner_context ∙
     (finish_step total (grown (begun here (opening_of t)) within inside) (g ∷ frames) declared blanks left is_tag.named blank ∙
-    (later total next (with_child f (content_meaning c) tree) frames declared rest few place ∙ child_end total f frames declared (60 ∷ rest) (content_meaning c) (own_text more) tree (children_from next more))))))
+    (later total next (with_child f (content_meaning c) tree) frames declared rest few sum ∙ child_end total f frames declared (60 ∷ rest) (content_meaning c) (own_text more) tree (children_from next more))))))
 
 pub inside_reads : (room : ℕ) (i : Inside) → IsInside room i → Reads room i
 inside_reads room (only c) is = only_reads room c is

@@ -69,12 +69,12 @@ quoted_cases : (b : ℕ) (bytes value rest : List ℕ) (is : Bool) → ((b == 34
 quoted_cases b bytes value rest true e found =
     let end = bind_some (index_of b bytes) (between bytes) (value, rest) found in
     let parts = some_pair_parts (take end.0 bytes) value (drop (end.0 + 1) bytes) rest end.2 in
-    let place = index_takes b bytes end.0 end.1 in
+    let taken = index_takes b bytes end.0 end.1 in
     record {
       quote = b;
       is = quote_is b e;
-      apart = subst (λ bs. list_all (λ c. not (c == b)) bs ≡ true) parts.0 place.apart;
-      spelled = ap (λ bs. b ∷ bs) (place.spelled ∙ (ap (λ bs. bs ++ b ∷ drop (end.0 + 1) bytes) parts.0 ∙ ap (λ bs. value ++ b ∷ bs) parts.1));
+      apart = subst (λ bs. list_all (λ c. not (c == b)) bs ≡ true) parts.0 taken.apart;
+      spelled = ap (λ bs. b ∷ bs) (taken.spelled ∙ (ap (λ bs. bs ++ b ∷ drop (end.0 + 1) bytes) parts.0 ∙ ap (λ bs. value ++ b ∷ bs) parts.1));
     }
 quoted_cases b bytes value rest false e found = absurd cc
 

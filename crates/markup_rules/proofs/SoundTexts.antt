@@ -161,8 +161,8 @@ at_aside at d bytes left a tree is spelled later = record {
   once = λ e. aside_before_once a later.prefix ∙ later.once e;
   spelled = spelled ∙ (ap (aside_then a) later.spelled ∙ sym (aside_before_text a later.prefix (root_then later.root (outside_then later.after []))));
   means =
-      (let place : at + length (prolog_then (aside_before a later.prefix) []) ≡ (at + length (aside_then a [])) + length (prolog_then later.prefix []) = omega (arith, ap length (aside_before_text a later.prefix []), aside_length a (prolog_then later.prefix [])) in
-      ap (λ n. root_tree n later.root) place ∙ later.means);
+      (let sum : at + length (prolog_then (aside_before a later.prefix) []) ≡ (at + length (aside_then a [])) + length (prolog_then later.prefix []) = omega (arith, ap length (aside_before_text a later.prefix []), aside_length a (prolog_then later.prefix [])) in
+      ap (λ n. root_tree n later.root) sum ∙ later.means);
 }
 
 at_blanks : (at : ℕ) (d : Bool) (bytes left blanks : List ℕ) (tree : Tree) → list_all is_blank blanks ≡ true → bytes ≡ blanks ++ left → FoundBefore (at + length blanks) d left tree → FoundBefore at d bytes tree
@@ -176,8 +176,8 @@ at_blanks at d bytes left blanks tree blank spelled later = record {
   once = λ e. blanks_before_once blanks later.prefix ∙ later.once e;
   spelled = spelled ∙ (ap (λ bs. blanks ++ bs) later.spelled ∙ sym (blanks_before_text blanks later.prefix (root_then later.root (outside_then later.after []))));
   means =
-      (let place : at + length (prolog_then (blanks_before blanks later.prefix) []) ≡ (at + length blanks) + length (prolog_then later.prefix []) = omega (arith, ap length (blanks_before_text blanks later.prefix []), length-append blanks (prolog_then later.prefix [])) in
-      ap (λ n. root_tree n later.root) place ∙ later.means);
+      (let sum : at + length (prolog_then (blanks_before blanks later.prefix) []) ≡ (at + length blanks) + length (prolog_then later.prefix []) = omega (arith, ap length (blanks_before_text blanks later.prefix []), length-append blanks (prolog_then later.prefix [])) in
+      ap (λ n. root_tree n later.root) sum ∙ later.means);
 }
 
 -- the document type, after which there is no other
@@ -205,9 +205,9 @@ at_doctype at bytes left text tree is spelled later =
       once = λ e. absurd cc;
       spelled = spelled ∙ ap (λ bs. codes "<!DOCTYPE" ++ (text ++ (codes ">" ++ bs))) (later.spelled ∙ ap (λ p. prolog_then p (root_then later.root (outside_then later.after []))) literal.same);
       means =
-          (let place : at + length (prolog_then (declared (white []) text literal.outside) []) ≡ (at + length (codes "<!DOCTYPE" ++ (text ++ codes ">"))) + length (prolog_then later.prefix []) =
+          (let sum : at + length (prolog_then (declared (white []) text literal.outside) []) ≡ (at + length (codes "<!DOCTYPE" ++ (text ++ codes ">"))) + length (prolog_then later.prefix []) =
           omega (arith, doctype_length text (outside_then literal.outside []), ap (λ p. length (prolog_then p [])) literal.same) in
-          ap (λ n. root_tree n later.root) place ∙ later.means);
+          ap (λ n. root_tree n later.root) sum ∙ later.means);
     }
 
 -- the root, before which nothing is left
@@ -227,13 +227,13 @@ root_found at d bytes left r tree is spelled later = record {
 before_read : (n total at : ℕ) (d : Bool) (bytes left : List ℕ) (m : Markup) (tree : Tree) → BeforeTo n → length left ≤ n → at + length bytes ≡ total
     → is_allowed_at (context_of (unrooted d)) m ≡ true → rest_from total (changed (total - length bytes) m (unrooted d)) left ≡ Ok tree → Read bytes left m → FoundBefore at d bytes tree
 before_read n total at d bytes left m tree rec few e allowed here (of_aside a is same spelled) =
-    let place : (at + length (aside_then a [])) + length left ≡ total = omega (arith, e, ap length spelled, aside_length a left) in
-    at_aside at d bytes left a tree is spelled (rec total (at + length (aside_then a [])) d left tree few place (sym (ap (λ k. rest_from total (changed (total - length bytes) k (unrooted d)) left) same) ∙ here))
+    let sum : (at + length (aside_then a [])) + length left ≡ total = omega (arith, e, ap length spelled, aside_length a left) in
+    at_aside at d bytes left a tree is spelled (rec total (at + length (aside_then a [])) d left tree few sum (sym (ap (λ k. rest_from total (changed (total - length bytes) k (unrooted d)) left) same) ∙ here))
 before_read n total at true bytes left m tree rec few e allowed here (of_doctype text is same spelled) =
     absurd (cc (allowed, ap (is_allowed_at (context_of (unrooted true))) same))
 before_read n total at false bytes left m tree rec few e allowed here (of_doctype text is same spelled) =
-    let place : (at + length (codes "<!DOCTYPE" ++ (text ++ codes ">"))) + length left ≡ total = omega (arith, e, ap length spelled, doctype_length text left) in
-    at_doctype at bytes left text tree is spelled (rec total (at + length (codes "<!DOCTYPE" ++ (text ++ codes ">"))) true left tree few place (sym (ap (λ k. rest_from total (changed (total - length bytes) k (unrooted false)) left) same) ∙ here))
+    let sum : (at + length (codes "<!DOCTYPE" ++ (text ++ codes ">"))) + length left ≡ total = omega (arith, e, ap length spelled, doctype_length text left) in
+    at_doctype at bytes left text tree is spelled (rec total (at + length (codes "<!DOCTYPE" ++ (text ++ codes ">"))) true left tree few sum (sym (ap (λ k. rest_from total (changed (total - length bytes) k (unrooted false)) left) same) ∙ here))
 before_read n total at d bytes left m tree rec few e allowed here (of_finish name blanks is blank same spelled) =
     absurd (cc (allowed, ap (is_allowed_at (context_of (unrooted d))) same))
 before_read n total at d bytes left m tree rec few e allowed here (of_start t is same spelled) =
@@ -249,8 +249,8 @@ before_read n total at d bytes left m tree rec few e allowed here (of_empty t is
     root_found at d bytes left (empty_root t) tree is spelled (after_to (length left) total (root_tree (at + 0) (empty_root t)) d left tree (omega arith) next)
 before_read n total at d bytes left m tree rec few e allowed here (of_content c is same spelled) =
     let blank : list_all is_blank (content_text c) ≡ true = sym (ap (is_allowed_at (context_of (unrooted d))) same) ∙ allowed in
-    let place : (at + length (content_text c)) + length left ≡ total = omega (arith, e, ap length spelled, content_length c left) in
-    at_blanks at d bytes left (content_text c) tree blank (white_text c bytes left spelled) (rec total (at + length (content_text c)) d left tree few place (sym (ap (λ k. rest_from total (changed (total - length bytes) k (unrooted d)) left) same) ∙ here))
+    let sum : (at + length (content_text c)) + length left ≡ total = omega (arith, e, ap length spelled, content_length c left) in
+    at_blanks at d bytes left (content_text c) tree blank (white_text c bytes left spelled) (rec total (at + length (content_text c)) d left tree few sum (sym (ap (λ k. rest_from total (changed (total - length bytes) k (unrooted d)) left) same) ∙ here))
 before_read n total at d bytes left m tree rec few e allowed here (of_bad same) = absurd (cc (allowed, ap (is_allowed_at (context_of (unrooted d))) same))
 
 before_to : (n : ℕ) → BeforeTo n
@@ -274,18 +274,18 @@ tree_found text mark rest tree spelled marked found = record {
   proper_after = found.after_is;
   spelled = spelled ∙ ap (λ bs. mark ++ bs) found.spelled;
   means =
-      (let place : length (mark ++ prolog_then found.prefix []) ≡ length mark + length (prolog_then found.prefix []) = length-append mark (prolog_then found.prefix []) in
-      sym (ap (λ n. root_tree n found.root) place ∙ found.means));
+      (let sum : length (mark ++ prolog_then found.prefix []) ≡ length mark + length (prolog_then found.prefix []) = length-append mark (prolog_then found.prefix []) in
+      sym (ap (λ n. root_tree n found.root) sum ∙ found.means));
 }
 
 mark_cases : (text : List ℕ) (tree : Tree) (is : Bool) → begins order_mark text ≡ is → rest_from (length text) initial (cond is (drop 3 text) text) ≡ Ok tree → IsTree text tree
 mark_cases text tree true e here =
     let spelled = begins_is_prefix order_mark text e in
-    let place : 3 + length (drop 3 text) ≡ length text = omega (arith, ap length spelled) in
-    tree_found text order_mark (drop 3 text) tree spelled (inr refl) (before_to (length (drop 3 text)) (length text) 3 false (drop 3 text) tree (omega arith) place here)
+    let sum : 3 + length (drop 3 text) ≡ length text = omega (arith, ap length spelled) in
+    tree_found text order_mark (drop 3 text) tree spelled (inr refl) (before_to (length (drop 3 text)) (length text) 3 false (drop 3 text) tree (omega arith) sum here)
 mark_cases text tree false e here =
-    let place : 0 + length text ≡ length text = omega arith in
-    tree_found text [] text tree refl (inl refl) (before_to (length text) (length text) 0 false text tree (omega arith) place here)
+    let sum : 0 + length text ≡ length text = omega arith in
+    tree_found text [] text tree refl (inl refl) (before_to (length text) (length text) 0 false text tree (omega arith) sum here)
 
 pub tree_takes : (text : List ℕ) (tree : Tree) → outcome text ≡ Ok tree → IsTree text tree
 tree_takes text tree e = mark_cases text tree (begins order_mark text) refl (rest_begins text ∙ e)

@@ -205,8 +205,8 @@ inside_read : (n room total at : ℕ) (f : Frame) (frames : List Frame) (declare
     → (opens bytes && nat_le 64 (suc (length (map (λ (f : Frame). f.name) frames)))) ≡ false → is_allowed_at (context_of (state (f ∷ frames) None declared)) m ≡ true → Here total at f frames declared bytes m left tree → Read bytes left m → FoundInside total at room f frames declared bytes tree
 inside_read n room total at f frames declared bytes left m tree rec few less room_is e shallow allowed here (of_aside a is same spelled) =
     let next = sym (ap (λ k. rest_from total (changed (total - length bytes) k (state (f ∷ frames) None declared)) left) same) ∙ here in
-    let place : (at + length (aside_then a [])) + length left ≡ total = omega (arith, e, ap length spelled, aside_length a left) in
-    at_aside total at room f frames declared bytes left a tree is spelled (rec room total (at + length (aside_then a [])) f frames declared left tree few room_is place next) less
+    let sum : (at + length (aside_then a [])) + length left ≡ total = omega (arith, e, ap length spelled, aside_length a left) in
+    at_aside total at room f frames declared bytes left a tree is spelled (rec room total (at + length (aside_then a [])) f frames declared left tree few room_is sum next) less
 inside_read n room total at f frames declared bytes left m tree rec few less room_is e shallow allowed here (of_doctype text is same spelled) =
     absurd (cc (allowed, ap (is_allowed_at (context_of (state (f ∷ frames) None declared))) same))
 inside_read n room total at f frames declared bytes left m tree rec few less room_is e shallow allowed here (of_finish name blanks is blank same spelled) =
@@ -220,21 +220,21 @@ inside_read n (suc room) total at f frames declared bytes left m tree rec few le
     let next = sym (ap (λ k. rest_from total (changed (total - length bytes) k (state (f ∷ frames) None declared)) left) same ∙ ap (λ k. rest_from total (state (begun k (opening_of t) ∷ (f ∷ frames)) None declared) left) found) ∙ here in
     let within : within_of at t + length left ≡ total = omega (arith, e, ap length spelled, tag_length t (codes ">" ++ left), tag_length t (codes ">")) in
     let inner = rec room total (within_of at t) (begun (at + 0) (opening_of t)) (f ∷ frames) declared left tree few (omega arith) within next in
-    let place : after_of at t inner.inside inner.blanks + length inner.rest ≡ total =
+    let sum : after_of at t inner.inside inner.blanks + length inner.rest ≡ total =
     omega (arith, within, ap length inner.spelled, inside_length inner.inside (end_tag_then t.name inner.blanks inner.rest), inside_length inner.inside (end_tag_then t.name inner.blanks []), end_tag_length t.name inner.blanks inner.rest) in
     at_child total at room f frames declared bytes left t tree is spelled inner
-    (rec (suc room) total (after_of at t inner.inside inner.blanks) (with_child f (child_tree at t inner.inside)) frames declared inner.rest tree (omega (arith, inner.shorter)) room_is place inner.later) less
+    (rec (suc room) total (after_of at t inner.inside inner.blanks) (with_child f (child_tree at t inner.inside)) frames declared inner.rest tree (omega (arith, inner.shorter)) room_is sum inner.later) less
 inside_read n zero total at f frames declared bytes left m tree rec few less room_is e shallow allowed here (of_empty t is same spelled) =
     absurd (omega (arith, tag_room t bytes (codes "/>" ++ left) frames is spelled shallow, room_is))
 inside_read n (suc room) total at f frames declared bytes left m tree rec few less room_is e shallow allowed here (of_empty t is same spelled) =
     let found : total - length bytes ≡ at + 0 = omega arith in
     let next = sym (ap (λ k. rest_from total (changed (total - length bytes) k (state (f ∷ frames) None declared)) left) same ∙ ap (λ k. rest_from total (state (with_child f (empty_tree t k) ∷ frames) None declared) left) found) ∙ here in
-    let place : ((at + 0) + length (tag_then t (codes "/>"))) + length left ≡ total = omega (arith, e, ap length spelled, tag_length t (codes "/>" ++ left), tag_length t (codes "/>")) in
-    at_empty total at room f frames declared bytes left t tree is spelled (rec (suc room) total ((at + 0) + length (tag_then t (codes "/>"))) (with_child f (empty_tree t (at + 0))) frames declared left tree few room_is place next) less
+    let sum : ((at + 0) + length (tag_then t (codes "/>"))) + length left ≡ total = omega (arith, e, ap length spelled, tag_length t (codes "/>" ++ left), tag_length t (codes "/>")) in
+    at_empty total at room f frames declared bytes left t tree is spelled (rec (suc room) total ((at + 0) + length (tag_then t (codes "/>"))) (with_child f (empty_tree t (at + 0))) frames declared left tree few room_is sum next) less
 inside_read n room total at f frames declared bytes left m tree rec few less room_is e shallow allowed here (of_content c is same spelled) =
     let next = sym (ap (λ k. rest_from total (changed (total - length bytes) k (state (f ∷ frames) None declared)) left) same) ∙ here in
-    let place : (at + length (content_text c)) + length left ≡ total = omega (arith, e, ap length spelled, content_length c left) in
-    at_content total at room f frames declared bytes left c tree is spelled (rec room total (at + length (content_text c)) (record f { text = f.text ++ content_meaning c }) frames declared left tree few room_is place next) less
+    let sum : (at + length (content_text c)) + length left ≡ total = omega (arith, e, ap length spelled, content_length c left) in
+    at_content total at room f frames declared bytes left c tree is spelled (rec room total (at + length (content_text c)) (record f { text = f.text ++ content_meaning c }) frames declared left tree few room_is sum next) less
 inside_read n room total at f frames declared bytes left m tree rec few less room_is e shallow allowed here (of_bad same) =
     absurd (cc (allowed, ap (is_allowed_at (context_of (state (f ∷ frames) None declared))) same))
 

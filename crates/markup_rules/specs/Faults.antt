@@ -24,19 +24,19 @@ is_innermost name (open_name ∷ names) = bytes_eq name open_name
 
 -- whether an item is of a right form, and may stand here
 abbrev pub is_allowed_at : Context → Markup → Bool
-is_allowed_at place (start opening) = not place.rooted
-is_allowed_at place (empty opening) = not place.rooted
-is_allowed_at place (finish name) = is_innermost name place.names
-is_allowed_at place aside = true
-is_allowed_at place doctype = is_nil place.names && (not place.rooted && not place.declared)
-is_allowed_at place (content blank text) = not (is_nil place.names) || blank
-is_allowed_at place bad = false
+is_allowed_at context (start opening) = not context.rooted
+is_allowed_at context (empty opening) = not context.rooted
+is_allowed_at context (finish name) = is_innermost name context.names
+is_allowed_at context aside = true
+is_allowed_at context doctype = is_nil context.names && (not context.rooted && not context.declared)
+is_allowed_at context (content blank text) = not (is_nil context.names) || blank
+is_allowed_at context bad = false
 
 -- data that reach the end of the text have no end inside an element, and end there outside
 abbrev pub lacks_end : Context → Item → Bool
-lacks_end place unended = true
-lacks_end place (data_to_end bytes) = not (is_nil place.names)
-lacks_end place _ = false
+lacks_end context unended = true
+lacks_end context (data_to_end bytes) = not (is_nil context.names)
+lacks_end context _ = false
 
 -- the other fields of a fault are empty or 0
 abbrev pub spot : Kind → ℕ → Spot
@@ -44,25 +44,25 @@ spot kind at = record { kind = kind; item = []; at = at; also = 0; first = pos 0
 
 -- the fault of one item of a text of so many bytes, in the order of the tests
 abbrev pub item_fault : ℕ → Context → Entry → Option Spot
-item_fault total place entry =
-    if entry.opening && nat_le 64 (length place.names) then Some (spot TooDeep (total - entry.left)) else
-    (if lacks_end place entry.item then Some (spot Unfinished total) else
-    (if is_allowed_at place (markup_of entry.item) then None else Some (spot BadText (total - entry.left))))
+item_fault total context entry =
+    if entry.opening && nat_le 64 (length context.names) then Some (spot TooDeep (total - entry.left)) else
+    (if lacks_end context entry.item then Some (spot Unfinished total) else
+    (if is_allowed_at context (markup_of entry.item) then None else Some (spot BadText (total - entry.left))))
 
 -- the context after the end of the innermost element
 abbrev pub closed_context : List (List ℕ) → Context → Context
-closed_context [] place = place
-closed_context (name ∷ names) place = record place { names = names; rooted = is_nil names || place.rooted }
+closed_context [] context = context
+closed_context (name ∷ names) context = record context { names = names; rooted = is_nil names || context.rooted }
 
 -- the context after an item
 abbrev pub context_after : Context → Markup → Context
-context_after place (start opening) = record place { names = opening.name ∷ place.names }
-context_after place (empty opening) = record place { rooted = is_nil place.names || place.rooted }
-context_after place (finish name) = closed_context place.names place
-context_after place aside = place
-context_after place doctype = record place { declared = true }
-context_after place (content blank text) = place
-context_after place bad = place
+context_after context (start opening) = record context { names = opening.name ∷ context.names }
+context_after context (empty opening) = record context { rooted = is_nil context.names || context.rooted }
+context_after context (finish name) = closed_context context.names context
+context_after context aside = context
+context_after context doctype = record context { declared = true }
+context_after context (content blank text) = context
+context_after context bad = context
 
 -- the first of two faults
 abbrev pub or_else : Option Spot → Option Spot → Option Spot
@@ -71,8 +71,8 @@ or_else None later = later
 
 -- the first fault of the items from here on; where none is faulty and no root has ended, the text is unfinished
 abbrev pub fault_from : ℕ → Context → List Entry → Option Spot
-fault_from total place [] = if place.rooted then None else Some (spot Unfinished total)
-fault_from total place (entry ∷ entries) = or_else (item_fault total place entry) (fault_from total (context_after place (markup_of entry.item)) entries)
+fault_from total context [] = if context.rooted then None else Some (spot Unfinished total)
+fault_from total context (entry ∷ entries) = or_else (item_fault total context entry) (fault_from total (context_after context (markup_of entry.item)) entries)
 
 -- the text without the byte order mark
 abbrev pub after_mark : List ℕ → List ℕ

@@ -268,7 +268,7 @@ root_tree at (full_root tag inside blanks) =
 
 -- ---- whole texts
 
--- the byte order mark of UTF-8, which may stand in prefix
+-- the byte order mark of UTF-8, with which a text may begin
 abbrev pub order_mark : List ℕ
 order_mark = 0xEF ∷ 0xBB ∷ 0xBF ∷ []
 

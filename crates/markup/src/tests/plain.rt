@@ -12,7 +12,7 @@ fn beyond(text: &[u8], at: usize) -> &[u8] {
     text.get(at..).unwrap_or(&[])
 }
 
-// The first place of a mark, from a place on.
+// The first index of a mark, from an index on.
 fn find(mark: &[u8], text: &[u8], start: usize) -> Option<usize> {
     for at in start..text.len() {
         if beyond(text, at).starts_with(mark) {
@@ -412,7 +412,7 @@ fn takes<'a>(alloc: Global, index: &mut Context<'a>, item: &'a [u8]) -> Result<b
     }
 }
 
-// The kind and the place of the fault of a text without a tree.
+// The kind and the offset of the fault of a text without a tree.
 fn fault(alloc: Global, text: &[u8]) -> Result<(&'static str, usize), AllocError> {
     let mut index = Context {
         names: Vec::new(alloc),
