@@ -2,10 +2,12 @@
 //! words that a font's checksums are made of.
 #![tactic(auto)]
 
+mod field;
 mod fields;
 mod sum;
 #[cfg(test)]
 mod tests;
 
+pub use field::{Field, put_fields};
 pub use fields::{put_bytes, put_i16, put_i32, put_i64, put_u8, put_u16, put_u32};
 pub use sum::sum32;
