@@ -6,3 +6,4 @@ pub mod MapLemmas
 pub mod PairLemmas
 pub mod RisingLemmas
 pub mod RoundingBounds
+pub mod SegmentLemmas

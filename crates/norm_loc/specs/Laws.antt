@@ -5,7 +5,8 @@ use Rattle.norm_loc.specs.AvarPairs.{avar_at, avar_pairs, is_on_axis}
 use Rattle.norm_loc.specs.AxisMaps.{Mapping, design_of}
 use Rattle.norm_loc.specs.Following.{KeysRise}
 use Rattle.norm_loc.specs.MapFaults.{fault_of}
-use Rattle.norm_loc.specs.Normalising.{normalised}
+use Rattle.norm_loc.specs.Normalising.{AreRising, normalised}
+use Rattle.norm_loc.specs.PairBounds.{AreSegments}
 
 -- at each node on the axis the normalised input becomes the normalised output
 abbrev pub NodesAreMet : Type 0
@@ -16,3 +17,7 @@ NodesAreMet =
 -- the pairs rise strictly by their first numbers
 abbrev pub PairsRise : Type 0
 PairsRise = (m : Mapping) → KeysRise Forward (avar_pairs m)
+
+-- they are pairs of coordinates, from -1 to 1, and few
+abbrev pub PairsAreSegments : Type 0
+PairsAreSegments = (m : Mapping) → AreRising m.user → AreRising (design_of m) → AreSegments (avar_pairs m)
