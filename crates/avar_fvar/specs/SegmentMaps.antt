@@ -1,9 +1,12 @@
 -- What the table of the segment maps means (OpenType, "avar", version 1.0): for each axis pairs of a normalised user
 -- value and the normalised design value that it becomes. Both are F2DOT14, by their raw numbers.
-use Rattle.std.specs.Prelude.{ℕ, ◌+◌, ◌*◌, ℤ, ◌+ℤ◌, ◌*ℤ◌, ◌-ℤ◌, ◌&&◌, List, ◌∷◌, drop, Option, Some, None, if◌then◌else◌, nat_eq, int_le, int_lt, slice_get, unsigned_abs}
+use Rattle.std.specs.Prelude.{◌≡◌, ℕ, ◌+◌, ◌*◌, ℤ, ◌+ℤ◌, ◌*ℤ◌, ◌-ℤ◌, ◌&&◌, List, ◌∷◌, drop, Option, Some, None, if◌then◌else◌, nat_eq, int_le, int_lt, slice_get, unsigned_abs}
 use Rattle.basics.specs.Optional.{◌>>=◌}
 use Rattle.be_bytes.specs.Reading.{int16, records, sized_records, uint16}
 use Rattle.fixpoint.specs.Rounding.{round_up}
+use Rattle.norm_loc.specs.AvarPairs.{avar_at, avar_pairs}
+use Rattle.norm_loc.specs.PairBounds.{IsCoordinate}
+use Rattle.avar_fvar.specs.declared.records.AxisRecord.{AxisRecord}
 
 abbrev pub pair_in : List ℕ → Option (ℤ × ℤ)
 pair_in bytes = do
@@ -29,7 +32,7 @@ segment_maps_in bytes = do
 
 -- on the line from one pair to another, rounded to the nearest, ties up
 abbrev pub on_line : ℤ × ℤ → ℤ × ℤ → ℤ → ℤ
-on_line p q v = p.1 +ℤ round_up ((v -ℤ p.0) *ℤ (q.1 -ℤ p.1)) (unsigned_abs (q.0 -ℤ p.0))
+on_line p q v = p.1 +ℤ round_up ((q.1 -ℤ p.1) *ℤ (v -ℤ p.0)) (unsigned_abs (q.0 -ℤ p.0))
 
 -- What a value becomes: it lies between two neighbouring pairs, and on the line from one to the other. A value that
 -- lies between none becomes nothing.
@@ -40,3 +43,13 @@ mapped _ v = None
 -- what a value becomes by the segment map of an axis
 abbrev pub mapped_in : List ℕ → ℕ → ℤ → Option ℤ
 mapped_in bytes axis v = segment_maps_in bytes >>= λ maps. slice_get maps axis >>= λ pairs. mapped pairs v
+
+-- the pairs of an axis's map
+abbrev pub pairs_of : AxisRecord → List (ℤ × ℤ)
+pairs_of axis = avar_pairs axis.map
+
+-- by the table each coordinate on an axis becomes what the axis's map makes of it
+abbrev pub MapsAsAxes : List AxisRecord → List ℕ → Type 0
+MapsAsAxes axes bytes =
+    (index : ℕ) (axis : AxisRecord) (v : ℤ) → slice_get axes index ≡ Some axis → IsCoordinate v
+    → mapped_in bytes index v ≡ Some (avar_at axis.map v)

@@ -4,6 +4,8 @@
 
 mod axes;
 mod records;
+mod segment_maps;
 
 pub use axes::fvar;
 pub use records::{AxisRecord, InstanceRecord};
+pub use segment_maps::avar;
