@@ -1,17 +1,17 @@
 -- The table of the axes is read back as it was written.
-use Rattle.std.proofs.Common.{◌≡◌, ℕ, ℤ, suc, ◌+◌, ◌*◌, ◌%◌, ◌^◌, ◌<◌, ◌≤◌, Bool, true, false, List, [], ◌∷◌, ◌++◌, length, length-append, map, drop, Option, Some, FitsSigned, refl, sym, ap, subst, ◌∙◌, arith}
+use Rattle.std.proofs.Common.{◌≡◌, ℕ, ℤ, ◌+◌, ◌*◌, ◌%◌, ◌^◌, ◌<◌, ◌≤◌, Bool, true, false, List, [], ◌∷◌, ◌++◌, length, length-append, drop, Some, FitsSigned, refl, sym, ap, subst, ◌∙◌, arith}
 use Rattle.std.proofs.lemmas.List.{append-nil, drop-drop, drop_at}
 use Rattle.std.proofs.lemmas.List.Elements.{recursion_from_All}
 use Rattle.std.specs.Prelude.{All, if◌then◌else◌, nat_eq}
 use Rattle.std.specs.Int.{w32}
 use Rattle.std.specs.List.{AllByRecursion, flat_map}
-use Rattle.be_bytes.specs.Fields.{field_bytes, fields_bytes}
+use Rattle.be_bytes.specs.Fields.{fields_bytes}
 use Rattle.be_bytes.specs.Reading.{int32, records, tag, uint16}
 use Rattle.be_bytes.specs.declared.field.Field.TheVariants.{Int32, Uint16}
 use Rattle.be_bytes.proofs.FieldLemmas.{int32-field, uint16-field}
 use Rattle.be_bytes.proofs.RecordLemmas.{ComesBack, records_back, records_size}
 use Rattle.norm_loc.specs.Normalising.{Limits}
-use Rattle.avar_fvar.specs.Axes.{Axis, FontAxes, axes_in, axis_in, instance_in}
+use Rattle.avar_fvar.specs.Axes.{Axis, axes_in, axis_in, instance_in}
 use Rattle.avar_fvar.specs.Layout.{axis_bytes, axis_fields, fvar_bytes, fvar_header, instance_bytes}
 use Rattle.avar_fvar.specs.Ranges.{FitsAxis, FitsInstance}
 use Rattle.avar_fvar.specs.declared.records.InstanceRecord.{InstanceRecord}

@@ -1,5 +1,5 @@
 -- What the table of the axes means (OpenType, "fvar", version 1.0). User values are raw numbers with 16 binary places.
-use Rattle.std.specs.Prelude.{ℕ, ◌+◌, ◌*◌, ◌%◌, Bool, ◌&&◌, List, map, drop, Option, Some, None, if◌then◌else◌, nat_eq}
+use Rattle.std.specs.Prelude.{ℕ, ◌+◌, ◌*◌, ◌%◌, Bool, ◌&&◌, List, drop, Option, Some, None, if◌then◌else◌, nat_eq}
 use Rattle.basics.specs.Optional.{◌>>=◌}
 use Rattle.be_bytes.specs.Reading.{int32, records, tag, uint16}
 use Rattle.norm_loc.specs.Normalising.{Limits}

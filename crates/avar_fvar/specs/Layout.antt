@@ -1,5 +1,5 @@
 -- How the two tables are written, byte for byte.
-use Rattle.std.specs.Prelude.{ℕ, ◌+◌, ◌*◌, ℤ, Bool, List, [], ◌∷◌, ◌++◌, length, if◌then◌else◌}
+use Rattle.std.specs.Prelude.{ℕ, ◌+◌, ◌*◌, ℤ, List, [], ◌∷◌, ◌++◌, length, if◌then◌else◌}
 use Rattle.std.specs.List.{flat_map}
 use Rattle.be_bytes.specs.Fields.{fields_bytes}
 use Rattle.be_bytes.specs.declared.field.Field.{Field}

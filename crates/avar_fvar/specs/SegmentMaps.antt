@@ -1,11 +1,11 @@
 -- What the table of the segment maps means (OpenType, "avar", version 1.0): for each axis pairs of a normalised user
 -- value and the normalised design value that it becomes. Both are F2DOT14, by their raw numbers.
-use Rattle.std.specs.Prelude.{◌≡◌, ℕ, ◌+◌, ◌*◌, ℤ, ◌+ℤ◌, ◌*ℤ◌, ◌-ℤ◌, ◌&&◌, List, ◌∷◌, drop, Option, Some, None, if◌then◌else◌, nat_eq, int_le, int_lt, slice_get, unsigned_abs}
+use Rattle.std.specs.Prelude.{◌≡◌, ℕ, ◌+◌, ◌*◌, ℤ, ◌&&◌, List, drop, Option, Some, None, if◌then◌else◌, nat_eq, slice_get}
 use Rattle.basics.specs.Optional.{◌>>=◌}
 use Rattle.be_bytes.specs.Reading.{int16, records, sized_records, uint16}
-use Rattle.fixpoint.specs.Rounding.{round_up}
 use Rattle.norm_loc.specs.AvarPairs.{avar_at, avar_pairs}
 use Rattle.norm_loc.specs.PairBounds.{IsCoordinate}
+use Rattle.norm_loc.specs.SegmentMap.{mapped}
 use Rattle.avar_fvar.specs.declared.records.AxisRecord.{AxisRecord}
 
 abbrev pub pair_in : List ℕ → Option (ℤ × ℤ)
@@ -29,16 +29,6 @@ segment_maps_in bytes = do
   axes ← uint16 (drop 6 bytes)
   maps ← sized_records segment_map_in axes (drop 8 bytes)
   if nat_eq major 1 && nat_eq minor 0 then Some maps else None
-
--- on the line from one pair to another, rounded to the nearest, ties up
-abbrev pub on_line : ℤ × ℤ → ℤ × ℤ → ℤ → ℤ
-on_line p q v = p.1 +ℤ round_up ((q.1 -ℤ p.1) *ℤ (v -ℤ p.0)) (unsigned_abs (q.0 -ℤ p.0))
-
--- What a value becomes: it lies between two neighbouring pairs, and on the line from one to the other. A value that
--- lies between none becomes nothing.
-abbrev pub mapped : List (ℤ × ℤ) → ℤ → Option ℤ
-mapped (p ∷ q ∷ pairs) v = if int_lt p.0 q.0 && int_le p.0 v && int_le v q.0 then Some (on_line p q v) else mapped (q ∷ pairs) v
-mapped _ v = None
 
 -- what a value becomes by the segment map of an axis
 abbrev pub mapped_in : List ℕ → ℕ → ℤ → Option ℤ

@@ -36,7 +36,10 @@ pub fn fvar(
     let axes = axes.as_slice();
     let instances = instances.as_slice();
     let mut bytes = Vec::new(alloc);
-    put_fields(&mut bytes, &header(axes.len() as u16, instances.len() as u16))?;
+    put_fields(
+        &mut bytes,
+        &header(axes.len() as u16, instances.len() as u16),
+    )?;
     for axis in axes {
         put_axis(&mut bytes, axis)?;
     }

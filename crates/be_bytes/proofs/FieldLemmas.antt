@@ -1,10 +1,10 @@
 -- A field that is written is read back, whatever follows.
-use Rattle.std.proofs.Common.{◌≡◌, ℕ, ℤ, ◌^◌, ◌<◌, List, ◌++◌, length, Some, FitsSigned, ap, ◌∙◌, arith}
+use Rattle.std.proofs.Common.{◌≡◌, ℕ, ℤ, ◌^◌, ◌<◌, List, ◌++◌, Some, FitsSigned, ap, ◌∙◌, arith}
 use Rattle.std.proofs.lemmas.Int.{ints}
 use Rattle.std.proofs.lemmas.Nat.{from_be_bytes-to_be_bytes_2, from_be_bytes-to_be_bytes_4, from_be_bytes-to_be_bytes_8}
 use Rattle.std.specs.Int.{w16, w32, w64, cast_signed, cast_unsigned}
 use Rattle.be_bytes.specs.Fields.{field_bytes}
-use Rattle.be_bytes.specs.Reading.{int16, int32, int64, uint16, uint32, uint64}
+use Rattle.be_bytes.specs.Reading.{int16, int32, int64, uint16, uint32}
 use Rattle.be_bytes.specs.declared.field.Field.TheVariants.{Uint16, Int16, Uint32, Int32, Int64}
 
 pub uint16-field : (n : ℕ) (rest : List ℕ) → n < 2 ^ 16 → uint16 (field_bytes (Uint16 n) ++ rest) ≡ Some n

@@ -1,6 +1,6 @@
 -- Big-endian fields as they are written (OpenType, "Data types"). A number with binary places, as F2DOT14 and Fixed,
 -- is written by its raw number.
-use Rattle.std.specs.Prelude.{ℕ, ℤ, List}
+use Rattle.std.specs.Prelude.{ℕ, List}
 use Rattle.std.specs.Int.{w16, w32, w64, cast_unsigned, to_be_bytes}
 use Rattle.std.specs.List.{flat_map}
 use Rattle.be_bytes.specs.declared.field.Field.{Field}

@@ -7,3 +7,4 @@ pub mod PairLemmas
 pub mod RisingLemmas
 pub mod RoundingBounds
 pub mod SegmentLemmas
+pub mod SegmentMapping

@@ -7,4 +7,5 @@ pub mod MapFaults
 pub mod Maps
 pub mod Normalising
 pub mod PairBounds
+pub mod SegmentMap
 pub mod Spans

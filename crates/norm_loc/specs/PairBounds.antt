@@ -1,5 +1,5 @@
 -- What holds of the pairs of every axis: they lead from -1 to 1, and stay between.
-use Rattle.std.specs.Prelude.{◌≡◌, ℕ, ◌≤◌, ℤ, pos, neg_ℤ, ◌≤ℤ◌, List, [], ◌∷◌, length, All}
+use Rattle.std.specs.Prelude.{◌≡◌, ◌≤◌, ℤ, pos, neg_ℤ, ◌≤ℤ◌, List, [], ◌∷◌, length, All}
 use Rattle.norm_loc.specs.declared.follow.Direction.TheVariants.{Forward}
 use Rattle.norm_loc.specs.Following.{KeysRise}
 

@@ -2,9 +2,8 @@ use Rattle.std.proofs.Common.{◌≡◌, ◌+◌, ◌<◌, ◌++◌, [], ◌∷�
 use Rattle.std.proofs.lemmas.Grind.{common_steps}
 use Rattle.std.proofs.lemmas.List.{length-map, map_more, take_all}
 use Rattle.std.proofs.lemmas.List.Elements.{All-more, All-push, All-weaker}
-use Rattle.std.proofs.lemmas.Result.{on_ok_weaker}
 use Rattle.std.specs.Prelude.{All}
-use Rattle.avar_fvar.specs.Axes.{Axis, axes_in, axis_of}
+use Rattle.avar_fvar.specs.Axes.{axes_in, axis_of}
 use Rattle.avar_fvar.specs.Ranges.{FitsAxis, FitsInstance}
 use Rattle.avar_fvar.specs.declared.records.AxisRecord.{AxisRecord}
 use Rattle.avar_fvar.specs.declared.records.InstanceRecord.{InstanceRecord}

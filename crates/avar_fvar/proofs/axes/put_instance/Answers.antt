@@ -1,4 +1,4 @@
-use Rattle.std.proofs.Common.{◌≡◌, ◌++◌, [], ◌∷◌, ℤ, List, ℕ, take, get_or, ap, subst, ◌∙◌, FitsSigned, arith}
+use Rattle.std.proofs.Common.{◌≡◌, take, subst, ◌∙◌, FitsSigned, arith}
 use Rattle.std.proofs.lemmas.Grind.{common_steps}
 use Rattle.std.proofs.lemmas.Int.{ints}
 use Rattle.std.proofs.lemmas.List.{take_all}
