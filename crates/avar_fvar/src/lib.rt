@@ -5,6 +5,8 @@
 mod axes;
 mod records;
 mod segment_maps;
+#[cfg(test)]
+mod tests;
 
 pub use axes::fvar;
 pub use records::{AxisRecord, InstanceRecord};
