@@ -8,18 +8,13 @@ use Rattle.std.specs.List.{AllByRecursion, flat_map}
 use Rattle.be_bytes.specs.Fields.{fields_bytes}
 use Rattle.be_bytes.specs.Reading.{int32, records, tag, uint16}
 use Rattle.be_bytes.specs.declared.field.Field.TheVariants.{Int32, Uint16}
-use Rattle.be_bytes.proofs.FieldLemmas.{int32-field, uint16-field}
-use Rattle.be_bytes.proofs.RecordLemmas.{ComesBack, records_back, records_size}
+use Rattle.be_bytes.proofs.FieldLemmas.{four, int32-field, uint16-field}
+use Rattle.be_bytes.proofs.RecordLemmas.{ComesBack, each_of, records_back, records_size}
 use Rattle.norm_loc.specs.Normalising.{Limits}
 use Rattle.avar_fvar.specs.Axes.{Axis, axes_in, axis_in, instance_in}
 use Rattle.avar_fvar.specs.Layout.{axis_bytes, axis_fields, fvar_bytes, fvar_header, instance_bytes}
 use Rattle.avar_fvar.specs.Ranges.{FitsAxis, FitsInstance}
 use Rattle.avar_fvar.specs.declared.records.InstanceRecord.{InstanceRecord}
-
--- what holds of each of a list by what holds of any
-pub each_of : {A : Type 0} (P Q : A → Type 0) → ((x : A) → P x → Q x) → (xs : List A) → AllByRecursion P xs → AllByRecursion Q xs
-each_of P Q step [] each = tt
-each_of P Q step (x ∷ xs) each = (step x each.0, each_of P Q step xs each.1)
 
 -- ---- an axis
 
@@ -48,15 +43,6 @@ axis_read a b c d user hidden name_id low middle high id =
     (uint16-field flags (fields_bytes (Uint16 name_id ∷ [])) (flag_fits hidden))
     (uint16-field name_id [] id)
     ∙ ap (λ (b : Bool). Some (record { tag = axis.tag; user = user; hidden = b; name_id = name_id })) (flag_is hidden)
-
--- a list of four
-four : (letters : List ℕ) → length letters ≡ 4 → (a : ℕ) × ((b : ℕ) × ((c : ℕ) × ((d : ℕ) × (letters ≡ a ∷ b ∷ c ∷ d ∷ []))))
-four (a ∷ b ∷ c ∷ d ∷ []) size = (a, (b, (c, (d, refl))))
-four [] size = absurd (omega arith)
-four (a ∷ []) size = absurd (omega arith)
-four (a ∷ b ∷ []) size = absurd (omega arith)
-four (a ∷ b ∷ c ∷ []) size = absurd (omega arith)
-four (a ∷ b ∷ c ∷ d ∷ e ∷ more) size = absurd (omega arith)
 
 axis_size : (axis : Axis) → FitsAxis axis → length (axis_bytes axis) ≡ 20
 unfolding axis_fields

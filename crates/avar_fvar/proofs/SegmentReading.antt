@@ -11,14 +11,13 @@ use Rattle.be_bytes.specs.Fields.{fields_bytes}
 use Rattle.be_bytes.specs.Reading.{int16, records, sized_records, uint16}
 use Rattle.be_bytes.specs.declared.field.Field.TheVariants.{Int16}
 use Rattle.be_bytes.proofs.FieldLemmas.{int16-field, uint16-field}
-use Rattle.be_bytes.proofs.RecordLemmas.{ComesBack, ComesBackSized, records_back, records_size, sized_records_back}
+use Rattle.be_bytes.proofs.RecordLemmas.{ComesBack, ComesBackSized, each_of, records_back, records_size, sized_records_back}
 use Rattle.norm_loc.specs.PairBounds.{AreSegments, IsCoordinate, IsPair}
 use Rattle.avar_fvar.specs.Layout.{avar_bytes, pair_bytes, segment_map_bytes}
 use Rattle.norm_loc.specs.SegmentMap.{mapped}
 use Rattle.norm_loc.proofs.SegmentMapping.{avar_at_mapped}
 use Rattle.avar_fvar.specs.SegmentMaps.{MapsAsAxes, mapped_in, pair_in, pairs_of, segment_map_in, segment_maps_in}
 use Rattle.avar_fvar.specs.declared.records.AxisRecord.{AxisRecord}
-use Rattle.avar_fvar.proofs.AxesReading.{each_of}
 
 -- ---- a pair
 

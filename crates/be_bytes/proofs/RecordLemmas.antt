@@ -6,6 +6,11 @@ use Rattle.std.specs.Prelude.{nat_le}
 use Rattle.std.specs.List.{AllByRecursion, flat_map}
 use Rattle.be_bytes.specs.Reading.{prefix_of, records, sized_records}
 
+-- what holds of each of a list, by what holds of any of its items
+pub each_of : {A : Type 0} (P Q : A → Type 0) → ((x : A) → P x → Q x) → (xs : List A) → AllByRecursion P xs → AllByRecursion Q xs
+each_of P Q step [] each = tt
+each_of P Q step (x ∷ xs) each = (step x each.0, each_of P Q step xs each.1)
+
 -- ---- records of one size
 
 -- what is written of x has this size and is read as x

@@ -1,5 +1,5 @@
 //! Big-endian fields, as all tables of a font have them (OpenType, "Data types"), and the sum of 32-bit
-//! words that a font's checksums are made of.
+//! words that a font's checksums are made of. Its definitions say how the fields and records of every table are read.
 #![tactic(auto)]
 
 mod field;
