@@ -1,4 +1,5 @@
-use crate::{put_bytes, put_i16, put_i32, put_i64, put_u8, put_u16, put_u32, sum32};
+use crate::Field::{Int16, Int32, Int64, Tag, Uint8, Uint16, Uint32};
+use crate::{put_bytes, put_fields, put_i16, put_i32, put_i64, put_u8, put_u16, put_u32, sum32};
 use std::test::*;
 
 #[test]
@@ -16,6 +17,19 @@ fn fields_by_hand(rt: HostRuntime) -> Result<(), Fail> {
         0xFF, 0x17, 0x2B, 0x5A, 0xF0, 0x00, 0x67, 0x76, 0x61, 0x72,
     ];
     assert_eq!(rt; out.as_slice(), by_hand.as_slice());
+
+    let mut listed = Vec::new(rt.alloc());
+    let fields = [
+        Uint8(0xFE),
+        Uint16(0x1234),
+        Int16(-2),
+        Uint32(0x89AB_CDEF),
+        Int32(-256),
+        Int64(-1_000_000_000_000),
+        Tag(*b"gvar"),
+    ];
+    put_fields(&mut listed, &fields)?;
+    assert_eq!(rt; listed.as_slice(), by_hand.as_slice());
     Ok(())
 }
 

@@ -10,14 +10,10 @@ use Rattle.norm_loc.specs.AvarPairs.{avar_pairs, fixed_pairs, is_on_axis, pair_o
 use Rattle.norm_loc.specs.AxisMaps.{Mapping, design_of}
 use Rattle.norm_loc.specs.Following.{between, followed, followed_after, moved}
 use Rattle.norm_loc.specs.Normalising.{AreRising, Limits, brought, normalised, normalised_within, share}
+use Rattle.norm_loc.specs.PairBounds.{IsCoordinate, IsPair}
 use Rattle.norm_loc.proofs.Choices.{le_of, lt_of}
 use Rattle.norm_loc.proofs.MapLemmas.{brought_within}
 use Rattle.norm_loc.proofs.RoundingBounds.{part_falls, part_grows, share_bounds}
-
--- a normalised coordinate
-pub record IsCoordinate (z : ℤ) : Type 0 where
-  pub low : neg_ℤ (pos 16384) ≤ℤ z
-  pub high : z ≤ℤ pos 16384
 
 share_coordinate : (n d : ℤ) → neg_ℤ d ≤ℤ n → n ≤ℤ d → IsCoordinate (share n d)
 unfolding share
@@ -39,10 +35,6 @@ pub normalised_coordinate : (s : Limits) → AreRising s → (v : ℤ) → IsCoo
 normalised_coordinate s rise v =
     let within = brought_within s.min s.max v (omega (arith, ints, rise.low, rise.high)) in
     within_coordinate s (brought s.min s.max v) within.0 within.1
-
-pub record IsPair (p : ℤ × ℤ) : Type 0 where
-  pub key : IsCoordinate p.0
-  pub value : IsCoordinate p.1
 
 abbrev pub ArePairs : List (ℤ × ℤ) → Type 0
 ArePairs [] = Unit {0}

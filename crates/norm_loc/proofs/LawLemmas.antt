@@ -32,7 +32,7 @@ has (q ∷ qs) p (k, within, e) = has_by q qs p k within e
 
 -- ---- following the pairs at one of them
 
-at_first : (n : ℤ × ℤ) (ns : List (ℤ × ℤ)) → KeysRiseAfter Forward n ns → followed_after Forward n ns n.0 ≡ n.1
+pub at_first : (n : ℤ × ℤ) (ns : List (ℤ × ℤ)) → KeysRiseAfter Forward n ns → followed_after Forward n ns n.0 ≡ n.1
 at_first n [] rise = moved_at n.0 n.1
 at_first n (m ∷ ms) rise = rw (lt_true n.0 m.0 rise.0) (line_start n.0 n.1 m.0 m.1 rise.0)
 

@@ -6,3 +6,5 @@ pub mod MapLemmas
 pub mod PairLemmas
 pub mod RisingLemmas
 pub mod RoundingBounds
+pub mod SegmentLemmas
+pub mod SegmentMapping

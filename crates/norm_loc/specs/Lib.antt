@@ -1,9 +1,11 @@
 pub mod AvarPairs
 pub mod AxisMaps
 pub mod Following
+pub mod Inserting
 pub mod Laws
 pub mod MapFaults
 pub mod Maps
 pub mod Normalising
-pub mod Inserting
+pub mod PairBounds
+pub mod SegmentMap
 pub mod Spans

@@ -2,6 +2,7 @@ ghost use Rattle.std.specs.Prelude.{◌≡◌, ℤ, pos, neg_ℤ, ◌≤ℤ◌, 
 ghost use Rattle.norm_loc.specs.AvarPairs.{avar_at, avar_pairs};
 ghost use Rattle.norm_loc.specs.AxisMaps.{Mapping, backward, design_of, forward};
 ghost use Rattle.norm_loc.specs.MapFaults.{is_in_range, side_vanishes, unordered};
+ghost use Rattle.norm_loc.specs.PairBounds.{AreSegments};
 ghost use Rattle.norm_loc.specs.Spans.{limits};
 
 use crate::coordinate::brought;
@@ -182,19 +183,22 @@ pub fn backward(map: &AxisMap, w: Fix<16>) -> Fix<16>
 
 /// The pairs of the axis in table `avar` (F2DOT14): those of -1, 0 and 1, and for each node on the axis its
 /// normalised user value and its normalised design value. They rise by their first numbers, and each is
-/// there once.
+/// there once, so that there are at most 32,769.
 pub fn avar_pairs(alloc: Global, map: &AxisMap) -> Result<Seq<(Fix<14>, Fix<14>)>, NoMemory>
-    ensures { IfOk result (λ pairs. pairs ≡ avar_pairs map.now) }
+    ensures value { IfOk result (λ pairs. pairs ≡ avar_pairs map.now) }
+    ensures segments { IfOk result AreSegments }
 {
     copied(alloc, map.pairs.as_slice())
 }
 
 /// The normalised design value of a normalised user value, by the pairs (OpenType, "avar"): between two
-/// of them on the line from one to the other, rounded to the nearest, ties up.
+/// of them on the line from one to the other, rounded to the nearest, ties up. Both are from -1 to 1.
 pub fn avar_at(map: &AxisMap, v: Fix<14>) -> Fix<14>
     requires low { neg_ℤ (pos 16384) ≤ℤ v }
     requires high { v ≤ℤ pos 16384 }
-    ensures { result ≡ avar_at map.now v }
+    ensures value { result ≡ avar_at map.now v }
+    ensures low { neg_ℤ (pos 16384) ≤ℤ result }
+    ensures high { result ≤ℤ pos 16384 }
 {
     Fix::from_raw(followed(Direction::Forward, map.pairs.as_slice(), v.wide()) as i32)
 }

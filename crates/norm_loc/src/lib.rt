@@ -15,6 +15,6 @@ mod tests;
 
 pub use axis_map::{AxisMap, avar_at, avar_pairs, backward, forward};
 pub use coordinate::normalise;
-pub use laws::{nodes_law, pairs_law};
+pub use laws::{mapping_law, nodes_law, pairs_law, segments_law};
 pub use span::Span;
 pub use stop::MapStop;

@@ -1,4 +1,4 @@
-use Rattle.std.proofs.Common.{◌≡◌, ℤ, List, FitsSigned, to_z-of_z, arith, ◌∙◌, sym, ap, subst}
+use Rattle.std.proofs.Common.{◌≡◌, ℤ, pos, neg_ℤ, ◌≤ℤ◌, List, FitsSigned, to_z-of_z, arith, ◌∙◌, sym, ap, subst}
 use Rattle.std.proofs.lemmas.Int.{ints}
 use Rattle.std.specs.Int.{w32, w64}
 use Rattle.norm_loc.specs.declared.follow.Direction.TheVariants.{Forward}
@@ -7,8 +7,10 @@ use Rattle.norm_loc.specs.AxisMaps.{Mapping, design_of}
 use Rattle.norm_loc.specs.Following.{KeysRise, followed}
 use Rattle.norm_loc.specs.Normalising.{AreRising}
 use Rattle.norm_loc.specs.Spans.{limits}
-use Rattle.norm_loc.proofs.BoundLemmas.{IsCoordinate, avar_pairs_pairs, followed_fits}
+use Rattle.norm_loc.specs.PairBounds.{IsCoordinate}
+use Rattle.norm_loc.proofs.BoundLemmas.{avar_pairs_pairs, followed_fits}
 use Rattle.norm_loc.proofs.PairLemmas.{avar_pairs_rise}
+use Rattle.norm_loc.proofs.SegmentLemmas.{avar_at_coordinate}
 use Rattle.norm_loc.proofs.axis_map.avar_at.Goals as goal
 
 pub followed-requires : goal.followed-requires
@@ -34,8 +36,8 @@ overflow_cast-followed c =
     let wide : FitsSigned w64 c.followed.result = omega (arith, ints) in
     simp to_z-of_z short
 
-pub returns : goal.returns
-returns c =
+pub returns-clause-value : goal.returns-clause-value
+returns-clause-value c =
     let m : Mapping = record { user = limits c.map.inside.user; nodes = c.map.inside.nodes } in
     let rise : AreRising m.user = record { low = c.map.inside.user.low; high = c.map.inside.user.high } in
     let own : AreRising (limits c.map.inside.design) = record { low = c.map.inside.design.low; high = c.map.inside.design.high } in
@@ -49,3 +51,20 @@ returns c =
     let wide : FitsSigned w64 c.followed.result = omega (arith, ints) in
     let raw : c.from_raw.result ≡ c.followed.result = simp to_z-of_z at c.from_raw.ensures in
     raw ∙ (value ∙ (ap (followed Forward (avar_pairs m)) c.wide.ensures.value ∙ ap (λ (n : Mapping). avar_at n c.args.v) c.map.view_is))
+
+-- what a coordinate becomes is one
+becomes : (map : Mapping) (m : Mapping) (v result : ℤ) → m ≡ map → AreRising m.user → AreRising (design_of m) → neg_ℤ (pos 16384) ≤ℤ v → v ≤ℤ pos 16384 → result ≡ avar_at map v → IsCoordinate result
+becomes map m v result is rise fall low high value =
+    subst IsCoordinate (sym (value ∙ ap (λ (n : Mapping). avar_at n v) (sym is))) (avar_at_coordinate m rise fall v (record { low = low; high = high }))
+
+pub returns-clause-low : goal.returns-clause-low
+returns-clause-low c =
+    let own : AreRising (limits c.map.inside.design) = record { low = c.map.inside.design.low; high = c.map.inside.design.high } in
+    (becomes c.args.map.now (record { user = limits c.map.inside.user; nodes = c.map.inside.nodes }) c.args.v c.from_raw.result c.map.view_is
+    (record { low = c.map.inside.user.low; high = c.map.inside.user.high }) (subst AreRising c.map.invariant.spans own) c.requires.low c.requires.high (returns-clause-value c)).low
+
+pub returns-clause-high : goal.returns-clause-high
+returns-clause-high c =
+    let own : AreRising (limits c.map.inside.design) = record { low = c.map.inside.design.low; high = c.map.inside.design.high } in
+    (becomes c.args.map.now (record { user = limits c.map.inside.user; nodes = c.map.inside.nodes }) c.args.v c.from_raw.result c.map.view_is
+    (record { low = c.map.inside.user.low; high = c.map.inside.user.high }) (subst AreRising c.map.invariant.spans own) c.requires.low c.requires.high (returns-clause-value c)).high

@@ -1,0 +1,2 @@
+pub mod AxesReading
+pub mod SegmentReading

@@ -1,0 +1,4 @@
+pub mod Axes
+pub mod Layout
+pub mod Ranges
+pub mod SegmentMaps
