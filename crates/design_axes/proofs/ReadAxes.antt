@@ -13,10 +13,10 @@ use Rattle.attributes.proofs.Readings.{after_any, chosen, in_turn_ok, then_ok}
 use Rattle.font_text.specs.Texts.{utf16_length}
 use Rattle.design_axes.specs.Axes.{AreFew, IsShort, and_axis, axes_in, axis_of, counted, distinct, is_cross_map, none_or_cross_map}
 use Rattle.design_axes.specs.Elements.{named}
-use Rattle.design_axes.specs.Names.{called_of, is_label, label_by, label_of, name_in, short_name, tag_in}
+use Rattle.design_axes.specs.Names.{identity_of, is_label, label_by, label_of, name_in, short_name, tag_in}
 use Rattle.design_axes.specs.Values.{mapping_of, user_limits}
 use Rattle.design_axes.specs.declared.axis.Axis.{Axis}
-use Rattle.design_axes.specs.declared.called.Called.{Called}
+use Rattle.design_axes.specs.declared.identity.Identity.{Identity}
 
 -- ---- names and labels
 
@@ -31,10 +31,10 @@ name_ok : (tree : Tree) → IfOk (name_in tree) IsBrief
 unfolding name_in
 name_ok tree = after_any IsBrief (needed (codes "name") tree) _ (short_ok (codes "name") tree)
 
-called_ok : (axis : ℕ) (tree : Tree) → IfOk (called_of axis tree) (λ (called : Called). IsBrief called.name)
-unfolding called_of
-called_ok axis tree =
-    let P : Called → Type 0 = λ called. IsBrief called.name in
+identity_ok : (axis : ℕ) (tree : Tree) → IfOk (identity_of axis tree) (λ (identity : Identity). IsBrief identity.name)
+unfolding identity_of
+identity_ok axis tree =
+    let P : Identity → Type 0 = λ identity. IsBrief identity.name in
     after_any P _ _ (λ _. after_any P (tag_in tree) _ (λ tag. then_ok IsBrief P (name_in tree) _ (name_ok tree) (λ name brief. brief)))
 
 label_by_ok : (name : List ℕ) (found : Option Tree) → IsBrief name → IfOk (label_by name found) IsBrief
@@ -48,10 +48,10 @@ label_ok name tree brief = label_by_ok name (find is_label (children_of tree)) b
 axis_ok : (earlier : List Axis) (tree : Tree) → IfOk (axis_of earlier tree) IsShort
 unfolding axis_of
 axis_ok earlier tree =
-    then_ok (λ called. IsBrief called.name) IsShort (called_of (length earlier) tree) _ (called_ok (length earlier) tree)
-    (λ called brief. after_any IsShort (user_limits (length earlier) tree) _
-    (λ user. after_any IsShort (distinct earlier called) _
-    (λ _. then_ok IsBrief IsShort (label_of called.name tree) _ (label_ok called.name tree brief)
+    then_ok (λ identity. IsBrief identity.name) IsShort (identity_of (length earlier) tree) _ (identity_ok (length earlier) tree)
+    (λ identity brief. after_any IsShort (user_limits (length earlier) tree) _
+    (λ user. after_any IsShort (distinct earlier identity) _
+    (λ _. then_ok IsBrief IsShort (label_of identity.name tree) _ (label_ok identity.name tree brief)
     (λ label short. after_any IsShort (mapping_of (length earlier) user tree) _
     (λ mapping. record { name = brief; label = short })))))
 

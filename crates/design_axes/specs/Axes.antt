@@ -8,34 +8,34 @@ use Rattle.basics.specs.declared.kinds.Kind.TheVariants.{CrossAxisMap, Duplicate
 use Rattle.basics.specs.declared.fault.Spot.{Spot}
 use Rattle.attributes.specs.Attributes.{fault}
 use Rattle.design_axes.specs.Elements.{first_named, named}
-use Rattle.design_axes.specs.Names.{called_of, is_hidden, label_of}
+use Rattle.design_axes.specs.Names.{identity_of, is_hidden, label_of}
 use Rattle.design_axes.specs.Spots.{axis_fault}
 use Rattle.design_axes.specs.Values.{mapping_of, user_limits}
 use Rattle.design_axes.specs.declared.axis.Axis.{Axis}
-use Rattle.design_axes.specs.declared.called.Called.{Called}
+use Rattle.design_axes.specs.declared.identity.Identity.{Identity}
 
 -- ---- one axis, of which the earlier ones are read
 
 -- an axis has this tag or this name
-abbrev pub has_either : Called → Axis → Bool
-has_either called axis = bytes_eq axis.tag called.tag || bytes_eq axis.name called.name
+abbrev pub has_either : Identity → Axis → Bool
+has_either identity axis = bytes_eq axis.tag identity.tag || bytes_eq axis.name identity.name
 
 abbrev pub none_or_duplicate : ℕ → Option ℕ → Result (Unit {0}) Spot
 none_or_duplicate axis None = Ok tt
 none_or_duplicate axis (Some earlier) = axis_fault DuplicateAxis earlier axis
 
 -- no earlier axis has its tag or its name
-unfoldable pub distinct : List Axis → Called → Result (Unit {0}) Spot
-distinct earlier called = none_or_duplicate (length earlier) (position (has_either called) earlier)
+unfoldable pub distinct : List Axis → Identity → Result (Unit {0}) Spot
+distinct earlier identity = none_or_duplicate (length earlier) (position (has_either identity) earlier)
 
 unfoldable pub axis_of : List Axis → Tree → Result Axis Spot
 axis_of earlier tree = do
-  called ← called_of (length earlier) tree
+  identity ← identity_of (length earlier) tree
   user ← user_limits (length earlier) tree
-  alone ← distinct earlier called
-  label ← label_of called.name tree
+  alone ← distinct earlier identity
+  label ← label_of identity.name tree
   mapping ← mapping_of (length earlier) user tree
-  Ok (record { tag = called.tag; name = called.name; label = label; hidden = is_hidden tree; map = mapping })
+  Ok (record { tag = identity.tag; name = identity.name; label = label; hidden = is_hidden tree; map = mapping })
 
 abbrev pub and_axis : List Axis → Tree → Result (List Axis) Spot
 and_axis earlier tree = axis_of earlier tree >>= λ axis. Ok (earlier ++ axis ∷ [])

@@ -1,4 +1,4 @@
--- What an axis is called (Designspace, "axis" and "labelname"): its tag, its name and its label, or the first fault.
+-- What names an axis (Designspace, "axis" and "labelname"): its tag, its name and its label, or the first fault.
 use Rattle.std.specs.Prelude.{ℕ, pos, Bool, false, ◌&&◌, ◌||◌, nat_le, List, codes, find, Option, Some, None, Result, Ok, Err, if◌then◌else◌}
 use Rattle.std.specs.Str.{bytes_eq}
 use Rattle.font_text.specs.Texts.{tag_of, utf16_length}
@@ -8,7 +8,7 @@ use Rattle.basics.specs.declared.kinds.Kind.TheVariants.{BadTag, DiscreteAxis, N
 use Rattle.basics.specs.declared.fault.Spot.{Spot}
 use Rattle.attributes.specs.Attributes.{needed}
 use Rattle.design_axes.specs.Spots.{axis_fault}
-use Rattle.design_axes.specs.declared.called.Called.{Called}
+use Rattle.design_axes.specs.declared.identity.Identity.{Identity}
 
 -- ---- texts of limited length
 
@@ -34,8 +34,8 @@ abbrev pub ranging : ℕ → Option (List ℕ) → Result (Unit {0}) Spot
 ranging axis None = Ok tt
 ranging axis (Some values) = axis_fault DiscreteAxis axis 0
 
-unfoldable pub called_of : ℕ → Tree → Result Called Spot
-called_of axis tree = do
+unfoldable pub identity_of : ℕ → Tree → Result Identity Spot
+identity_of axis tree = do
   continuous ← ranging axis (attribute_of (codes "values") tree)
   tag ← tag_in tree
   name ← name_in tree

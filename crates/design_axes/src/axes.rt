@@ -82,7 +82,35 @@ fn read_element(alloc: Global, element: &Element) -> Result<Seq<Axis>, Stop>
     Ok(axes)
 }
 
-/// The axes of a designspace document, off its root element.
+/// Reads the axes of a designspace document off its root element (Designspace, "axes").
+///
+/// Of the first `axes` each `axis` is read, in the document's order. Its `tag` is one to four bytes of ASCII 32 to
+/// 126, filled with spaces; its `name` has at most 100 units of UTF-16; `minimum`, `default` and `maximum` are user
+/// values, decimal texts that are rounded to 16 binary places, and rise weakly. The label is the text of the first
+/// `labelname` whose `xml:lang` is `en`, at most 100 units as well, or the name where there is none. The axis is
+/// hidden where `hidden` is `1` or `true`. Each `map` is a node from its `input`, a user value, to its `output`, a
+/// design value. No two axes have one tag or one name. Other elements and attributes are passed over.
+///
+/// # Errors
+///
+/// `Stop::NoMemory` where memory ran out, or else `Stop::At` with the first fault. A number that is faulty is
+/// MissingAttribute, NotNumber or NumberRange; its item is the attribute, its `at` the offset in bytes of the
+/// element. Axes and nodes are numbered from 0 in the document's order, each axis by its `at` but where an offset is
+/// named here. Tested are, in this order:
+///
+/// 1. NoAxes where there is no axis; TooManyAxes where there are more than eight, with their number as `first`;
+/// 2. the axes in their order, each with all that follows: DiscreteAxis where it has `values`; MissingAttribute of the
+///    item `tag`, BadTag with the text as item, both at the axis's offset; MissingAttribute of the item `name`, and
+///    NameLength of it with the number of units as `first`, at that offset too; the numbers `minimum`, `default` and
+///    `maximum`; AxisOrder where they don't rise;
+/// 3. DuplicateAxis where an earlier axis has its tag or its name, with the first such axis as `at` and this one as
+///    `also`; NameLength of the item `labelname`, at the offset of that element;
+/// 4. the numbers `input` and `output` of each node; MapOrder where the inputs and outputs of the nodes don't rise,
+///    with the first such node as `also`; MapRange where the least or the greatest user value becomes a design value
+///    that 16 binary places don't hold; MapCollapse where the pair of a node stands against an earlier one, with the
+///    node as `also`, or where one side of the axis has no design values, with the number of nodes;
+/// 5. after all axes CrossAxisMap at the offset of the first `mappings` with an element in it, a map that takes several
+///    axes together.
 #[tactic(auto, unfolding(crate::specs::Axes::axes_of))]
 pub fn read_axes(alloc: Global, designspace: &Element) -> Result<Seq<Axis>, Stop>
     // Which axes they are, and which fault.

@@ -3,7 +3,8 @@ ghost use Rattle.basics.specs.Reading.{Gives};
 ghost use Rattle.markup.specs.Plain.{plain};
 ghost use Rattle.design_axes.specs.Axes.{axis_of, distinct, has_either, none_or_duplicate};
 
-use crate::called::{Called, is_hidden, read_called, read_label};
+use crate::identity::{Identity, read_identity};
+use crate::label::{is_hidden, read_label};
 use crate::mapping::{read_map, read_span};
 use crate::spots::axis_fault;
 use basics::{Kind, Name, Stop};
@@ -27,25 +28,25 @@ pub struct Axis {
 }
 
 /// Whether the axis has this tag or this name.
-fn has_either(called: &Called, axis: &Axis) -> bool
-    ensures { result ≡ has_either called.now axis.now }
+fn has_either(identity: &Identity, axis: &Axis) -> bool
+    ensures { result ≡ has_either identity.now axis.now }
 {
-    axis.tag == called.tag || axis.name.as_str() == called.name.as_str()
+    axis.tag == identity.tag || axis.name.as_str() == identity.name.as_str()
 }
 
 /// The first axis with this tag or this name.
-fn first_alike(earlier: &[Axis], called: &Called) -> Option<usize>
-    ensures { result ≡ position (has_either called.now) earlier.now }
+fn first_alike(earlier: &[Axis], identity: &Identity) -> Option<usize>
+    ensures { result ≡ position (has_either identity.now) earlier.now }
 {
-    earlier.iter().position(|axis| has_either(called, axis))
+    earlier.iter().position(|axis| has_either(identity, axis))
 }
 
 /// Tests that no earlier axis has this tag or this name.
 #[tactic(auto, unfolding(crate::specs::Axes::distinct))]
-fn check_distinct(alloc: Global, earlier: &[Axis], called: &Called) -> Result<(), Stop>
-    ensures { Gives (λ _. tt) result (distinct earlier.now called.now) }
+fn check_distinct(alloc: Global, earlier: &[Axis], identity: &Identity) -> Result<(), Stop>
+    ensures { Gives (λ _. tt) result (distinct earlier.now identity.now) }
 {
-    match first_alike(earlier, called) {
+    match first_alike(earlier, identity) {
         Some(number) => Err(axis_fault(
             alloc,
             Kind::DuplicateAxis,
@@ -62,12 +63,12 @@ pub(crate) fn read_axis(alloc: Global, earlier: &[Axis], element: &Element) -> R
     ensures { Gives (λ axis. axis) result (axis_of earlier.now (plain element.now)) }
 {
     let number = earlier.len() as u64;
-    let called = read_called(alloc, number, element)?;
+    let identity = read_identity(alloc, number, element)?;
     let user = read_span(alloc, number, element)?;
-    check_distinct(alloc, earlier, &called)?;
-    let label = read_label(alloc, &called.name, element)?;
+    check_distinct(alloc, earlier, &identity)?;
+    let label = read_label(alloc, &identity.name, element)?;
     let map = read_map(alloc, number, user, element)?;
-    let Called { tag, name } = called;
+    let Identity { tag, name } = identity;
     Ok(Axis {
         tag,
         name,

@@ -7,12 +7,17 @@
 
 mod axes;
 mod axis;
-mod called;
 mod elements;
+mod identity;
+mod label;
 mod mapping;
 mod spots;
+mod texts;
 
 pub use axes::read_axes;
 pub use axis::Axis;
-pub use called::short_name;
 pub use elements::{first_named, named};
+pub use texts::short_name;
+
+#[cfg(test)]
+mod tests;

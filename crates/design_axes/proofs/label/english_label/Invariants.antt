@@ -3,7 +3,7 @@ use Rattle.std.specs.Prelude.{find}
 use Rattle.markup.specs.Plain.{plain}
 use Rattle.markup_rules.specs.Tree.{children_of}
 use Rattle.design_axes.specs.Names.{is_label}
-use Rattle.design_axes.proofs.called.english_label.Given as goal
+use Rattle.design_axes.proofs.label.english_label.Given as goal
 
 abbrev pub invariant-loop-child : goal.invariant-loop-child
 invariant-loop-child l =
