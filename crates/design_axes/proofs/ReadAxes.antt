@@ -10,7 +10,7 @@ use Rattle.basics.specs.declared.fault.Stop.{Stop}
 use Rattle.markup_rules.specs.Tree.{Tree, children_of, text_of}
 use Rattle.attributes.specs.Attributes.{needed}
 use Rattle.attributes.proofs.Readings.{after_any, chosen, in_turn_ok, then_ok}
-use Rattle.font_text.specs.Texts.{utf16_length}
+use Rattle.font_text.specs.Utf16.{utf16_length}
 use Rattle.design_axes.specs.Axes.{AreFew, IsShort, and_axis, axes_in, axis_of, counted, distinct, is_cross_map, none_or_cross_map}
 use Rattle.design_axes.specs.Elements.{named}
 use Rattle.design_axes.specs.Names.{identity_of, is_label, label_by, label_of, name_in, short_name, tag_in}

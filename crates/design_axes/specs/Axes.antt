@@ -1,7 +1,7 @@
 -- The axes of a designspace document (Designspace, "axes"), or the first fault.
 use Rattle.std.specs.Prelude.{ℕ, pos, Bool, ◌&&◌, ◌||◌, nat_le, ◌≤◌, List, [], ◌∷◌, ◌++◌, length, codes, find, position, Option, Some, None, Result, Ok, Err, if◌then◌else◌}
 use Rattle.std.specs.Str.{bytes_eq}
-use Rattle.font_text.specs.Texts.{utf16_length}
+use Rattle.font_text.specs.Utf16.{utf16_length}
 use Rattle.markup_rules.specs.Tree.{Tree, children_of, is_named}
 use Rattle.basics.specs.Reading.{◌>>=◌, in_turn, spot_of}
 use Rattle.basics.specs.declared.kinds.Kind.TheVariants.{CrossAxisMap, DuplicateAxis, NoAxes, TooManyAxes}

@@ -1,7 +1,8 @@
 -- What names an axis (Designspace, "axis" and "labelname"): its tag, its name and its label, or the first fault.
 use Rattle.std.specs.Prelude.{ℕ, pos, Bool, false, ◌&&◌, ◌||◌, nat_le, List, codes, find, Option, Some, None, Result, Ok, Err, if◌then◌else◌}
 use Rattle.std.specs.Str.{bytes_eq}
-use Rattle.font_text.specs.Texts.{tag_of, utf16_length}
+use Rattle.font_text.specs.Tags.{tag_of}
+use Rattle.font_text.specs.Utf16.{utf16_length}
 use Rattle.markup_rules.specs.Tree.{Tree, at_of, attribute_of, children_of, is_named, text_of}
 use Rattle.basics.specs.Reading.{◌>>=◌, spot_of}
 use Rattle.basics.specs.declared.kinds.Kind.TheVariants.{BadTag, DiscreteAxis, NameLength}
