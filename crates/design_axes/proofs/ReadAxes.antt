@@ -1,7 +1,12 @@
--- What is read as axes: one to eight of them, with short names and labels.
-use Rattle.std.proofs.Common.{◌≡◌, ℕ, ◌+◌, ◌≤◌, List, [], ◌∷◌, length, codes, Option, Some, None, Ok, Err, subst, arith}
-use Rattle.std.specs.Prelude.{All, IfOk, Result, find, nat_le}
-use Rattle.std.proofs.lemmas.Bool.Decides.{nat_tests}
+-- What is read as axes: one to eight of them, no two with one tag or one name, with short names and labels.
+use Rattle.std.proofs.Common.{◌≡◌, ℕ, ◌+◌, ◌≤◌, Bool, true, false, List, [], ◌∷◌, length, codes, Option, Some, None, Ok, Err, subst, arith, refl, sym, ◌∙◌}
+use Rattle.std.specs.Prelude.{All, AllPairs, IfOk, Result, if◌then◌else◌, nat_lt, find, nat_le}
+use Rattle.std.specs.List.{position_or_len}
+use Rattle.std.proofs.lemmas.Bool.Decides.{nat_tests, not_from_Decides}
+use Rattle.std.proofs.lemmas.Grind.{common_steps}
+use Rattle.std.proofs.lemmas.List.Quantifiers.{all_pairs_push}
+use Rattle.std.proofs.lemmas.List.Sums.{fails_before_first}
+use Rattle.std.proofs.lemmas.Slice.Eq.{bytes_eq-Decides}
 use Rattle.std.proofs.lemmas.List.{length_push}
 use Rattle.std.proofs.lemmas.List.Elements.{All-nil, All-cons, All-append}
 use Rattle.basics.specs.Reading.{Gives, in_turn}
@@ -11,7 +16,7 @@ use Rattle.markup_rules.specs.Tree.{Tree, children_of, text_of}
 use Rattle.attributes.specs.Attributes.{needed}
 use Rattle.attributes.proofs.Readings.{after_any, chosen, in_turn_ok, then_ok}
 use Rattle.font_text.specs.Utf16.{utf16_length}
-use Rattle.design_axes.specs.Axes.{AreFew, IsShort, and_axis, axes_in, axis_of, counted, distinct, is_cross_map, none_or_cross_map}
+use Rattle.design_axes.specs.Axes.{AreApart, AreFew, IsShort, and_axis, axes_in, axis_of, counted, distinct, has_either, is_cross_map, none_or_cross_map, none_or_duplicate}
 use Rattle.design_axes.specs.Elements.{named}
 use Rattle.design_axes.specs.Names.{identity_of, is_label, label_by, label_of, name_in, short_name, tag_in}
 use Rattle.design_axes.specs.Values.{mapping_of, user_limits}
@@ -86,21 +91,58 @@ grown earlier (tree ∷ trees) =
     then_ok (λ axes. length axes ≡ length earlier + 1) (λ axes. length axes ≡ length earlier + length (tree ∷ trees)) (and_axis earlier tree) _ (one_more earlier tree)
     (λ next one. weaker (λ axes. length axes ≡ length next + length trees) (λ axes. length axes ≡ length earlier + length (tree ∷ trees)) _ (grown next trees) (λ axes more. omega arith))
 
-both_ok : {A F : Type 0} (P Q R : A → Type 0) (r : Result A F) → IfOk r P → IfOk r Q → ((x : A) → P x → Q x → R x) → IfOk r R
-both_ok P Q R (Ok x) p q both = both x p q
-both_ok P Q R (Err e) p q both = tt
+all_ok : {A F : Type 0} (P Q R S : A → Type 0) (r : Result A F) → IfOk r P → IfOk r Q → IfOk r R → ((x : A) → P x → Q x → R x → S x) → IfOk r S
+all_ok P Q R S (Ok x) p q r all = all x p q r
+all_ok P Q R S (Err e) p q r all = tt
 
--- ---- both
+-- ---- no two are alike
+
+none_found : (n k : ℕ) (b : Bool) (P : Type 0) → (b ≡ false → P) → IfOk (none_or_duplicate n (if b then Some k else None)) (λ _. P)
+none_found n k true P p = tt
+none_found n k false P p = p refl
+
+distinct_ok : (earlier : List Axis) (identity : Identity) → IfOk (distinct earlier identity) (λ _. All (λ axis. has_either identity axis ≡ false) earlier)
+unfolding distinct
+distinct_ok earlier identity =
+    let first = position_or_len (has_either identity) earlier in
+    none_found (length earlier) first (nat_lt first (length earlier)) (All (λ axis. has_either identity axis ≡ false) earlier)
+    (λ none k d less. fails_before_first (has_either identity) earlier k d (grind (arith, nat_tests)))
+
+apart_by : (identity : Identity) (axis other : Axis) → identity.tag ≡ axis.tag → identity.name ≡ axis.name → has_either identity other ≡ false → AreApart other axis
+apart_by identity axis other tag name neither = record {
+  tags = λ same. not_from_Decides _ (bytes_eq-Decides other.tag identity.tag) (grind (arith, common_steps)) (same ∙ sym tag);
+  names = λ same. not_from_Decides _ (bytes_eq-Decides other.name identity.name) (grind (arith, common_steps)) (same ∙ sym name);
+}
+
+apart_ok : (earlier : List Axis) (tree : Tree) → IfOk (axis_of earlier tree) (λ axis. All (λ other. AreApart other axis) earlier)
+unfolding axis_of
+apart_ok earlier tree =
+    let P : Axis → Type 0 = λ axis. All (λ other. AreApart other axis) earlier in
+    after_any P (identity_of (length earlier) tree) _
+    (λ identity. after_any P (user_limits (length earlier) tree) _
+    (λ user. then_ok (λ _. All (λ axis. has_either identity axis ≡ false) earlier) P (distinct earlier identity) _ (distinct_ok earlier identity)
+    (λ _ neither. after_any P (label_of identity.name tree) _
+    (λ label. after_any P (mapping_of (length earlier) user tree) _
+    (λ mapping k d less. apart_by identity _ _ refl refl (neither k d less))))))
+
+and_axis_apart : (earlier : List Axis) (tree : Tree) → AllPairs AreApart earlier → IfOk (and_axis earlier tree) (AllPairs AreApart)
+and_axis_apart earlier tree before =
+    then_ok (λ axis. All (λ other. AreApart other axis) earlier) (AllPairs AreApart) (axis_of earlier tree) _ (apart_ok earlier tree)
+    (λ axis apart. all_pairs_push AreApart earlier axis before apart)
+
+-- ---- all of it
 
 record AreRead (axes : List Axis) : Type 0 where
   count : AreFew axes
+  apart : AllPairs AreApart axes
   brief : All IsShort axes
 
 few_ok : (trees : List Tree) → IsFew trees → IfOk (in_turn and_axis [] trees) AreRead
 few_ok trees few =
     let short = in_turn_ok (All IsShort) and_axis and_axis_ok [] trees (All-nil IsShort) in
-    both_ok (λ axes. length axes ≡ length {A = Axis} [] + length trees) (All IsShort) AreRead _ (grown [] trees) short
-    (λ axes count brief. record { count = record { some = omega (arith, count, few.0); few = omega (arith, count, few.1) }; brief = brief })
+    let apart = in_turn_ok (AllPairs AreApart) and_axis and_axis_apart [] trees (λ i j d less below. absurd (omega arith)) in
+    all_ok (λ axes. length axes ≡ length {A = Axis} [] + length trees) (AllPairs AreApart) (All IsShort) AreRead _ (grown [] trees) apart short
+    (λ axes count apart brief. record { count = record { some = omega (arith, count, few.0); few = omega (arith, count, few.1) }; apart = apart; brief = brief })
 
 in_ok : (tree : Tree) → IfOk (axes_in tree) AreRead
 unfolding axes_in
@@ -119,3 +161,6 @@ few_read tree result gives = weaker AreRead AreFew result (read_ok (axes_in tree
 
 pub short_read : (designspace : Tree) (result : Result (List Axis) Stop) → Gives (λ axes. axes) result (axes_in designspace) → IfOk result (All IsShort)
 short_read tree result gives = weaker AreRead (All IsShort) result (read_ok (axes_in tree) result gives (in_ok tree)) (λ axes read. read.brief)
+
+pub apart_read : (designspace : Tree) (result : Result (List Axis) Stop) → Gives (λ axes. axes) result (axes_in designspace) → IfOk result (AllPairs AreApart)
+apart_read tree result gives = weaker AreRead (AllPairs AreApart) result (read_ok (axes_in tree) result gives (in_ok tree)) (λ axes read. read.apart)

@@ -1,5 +1,5 @@
 -- The axes of a designspace document (Designspace, "axes"), or the first fault.
-use Rattle.std.specs.Prelude.{ℕ, pos, Bool, ◌&&◌, ◌||◌, nat_le, ◌≤◌, List, [], ◌∷◌, ◌++◌, length, codes, find, position, Option, Some, None, Result, Ok, Err, if◌then◌else◌}
+use Rattle.std.specs.Prelude.{◌≢◌, ℕ, pos, Bool, ◌&&◌, ◌||◌, nat_le, ◌≤◌, List, [], ◌∷◌, ◌++◌, length, codes, find, position, Option, Some, None, Result, Ok, Err, if◌then◌else◌}
 use Rattle.std.specs.Str.{bytes_eq}
 use Rattle.font_text.specs.Utf16.{utf16_length}
 use Rattle.markup_rules.specs.Tree.{Tree, children_of, is_named}
@@ -86,3 +86,8 @@ pub record IsShort (axis : Axis) : Type 0 where
 pub record AreFew (axes : List Axis) : Type 0 where
   pub some : 1 ≤ length axes
   pub few : length axes ≤ 8
+
+-- they have neither one tag nor one name
+pub record AreApart (a b : Axis) : Type 0 where
+  pub tags : a.tag ≢ b.tag
+  pub names : a.name ≢ b.name

@@ -30,7 +30,7 @@ tag_in tree = needed (codes "tag") tree >>= λ text. tag_or_fault tree text (tag
 unfoldable pub name_in : Tree → Result (List ℕ) Spot
 name_in tree = needed (codes "name") tree >>= λ text. short_name (codes "name") tree text
 
--- the axis has a range, and no single values in its place
+-- the axis has a range of values, and no single ones
 abbrev pub ranging : ℕ → Option (List ℕ) → Result (Unit {0}) Spot
 ranging axis None = Ok tt
 ranging axis (Some values) = axis_fault DiscreteAxis axis 0

@@ -1,8 +1,8 @@
-ghost use Rattle.std.specs.Prelude.{◌≡◌, [], map, All, IfOk, find, option_map};
+ghost use Rattle.std.specs.Prelude.{◌≡◌, [], map, All, AllPairs, IfOk, find, option_map};
 ghost use Rattle.basics.specs.Reading.{Gives, in_turn};
 ghost use Rattle.markup.specs.Plain.{plain};
 ghost use Rattle.markup_rules.specs.Tree.{children_of};
-ghost use Rattle.design_axes.specs.Axes.{AreFew, IsShort, and_axis, axes_in, axes_of, counted, is_cross_map, none_or_cross_map};
+ghost use Rattle.design_axes.specs.Axes.{AreApart, AreFew, IsShort, and_axis, axes_in, axes_of, counted, is_cross_map, none_or_cross_map};
 
 use crate::axis::{Axis, read_axis};
 use crate::elements::{first_named, named};
@@ -117,6 +117,8 @@ pub fn read_axes(alloc: Global, designspace: &Element) -> Result<Seq<Axis>, Stop
     ensures exact { Gives (λ axes. axes) result (axes_of (plain designspace.now)) }
     // There are one to eight.
     ensures few { IfOk result AreFew }
+    // No two have one tag or one name.
+    ensures apart { IfOk result (AllPairs AreApart) }
     // Names and labels are short.
     ensures short { IfOk result (All IsShort) }
 {

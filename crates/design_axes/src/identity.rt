@@ -53,7 +53,7 @@ fn read_name(alloc: Global, axis: &Element) -> Result<Name, Stop>
     short_name(alloc, "name", axis, text)
 }
 
-/// Tests that the axis has a range, and no single values in its place.
+/// Tests that the axis has a range of values, and no single ones.
 fn check_range(alloc: Global, number: u64, values: Option<&str>) -> Result<(), Stop>
     ensures { Gives (λ _. tt) result (rules.ranging number (option_map (λ text. text.now) values.entry)) }
 {

@@ -104,7 +104,7 @@ const READ: [(&str, &str); 12] = [
 /// What stands in `axes`, and its first fault, of the attributes of an axis.
 const REFUSED: [(&str, &str); 16] = [
     ("%<axis values=''/>", "DiscreteAxis - 1 0 0 0"),
-    ("@<axis name='a'$/>", "MissingAttribute tag @ 0 0 0"),
+    ("@<axis$/>", "MissingAttribute tag @ 0 0 0"),
     ("%@<axis tag=''/>", "BadTag - @ 0 0 0"),
     ("@<axis tag='weight'/>", "BadTag weight @ 0 0 0"),
     ("@<axis tag='wg\u{e9}'/>", "BadTag wg\u{e9} @ 0 0 0"),

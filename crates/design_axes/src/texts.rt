@@ -14,8 +14,8 @@ const NAME_UNITS: usize = 100;
 ///
 /// # Errors
 ///
-/// NameLength, its item being the one that is given, its place the element's offset and its value how many units there
-/// are; or want of memory.
+/// NameLength, with `item` as it is given, the element's offset in bytes as `at`, and the number of units as `first`;
+/// or want of memory.
 #[tactic(auto, unfolding(crate::specs::Names::short_name))]
 pub fn short_name(alloc: Global, item: &str, element: &Element, text: &str) -> Result<Name, Stop>
     ensures { Gives (λ text. text) result (rules.short_name item.now (plain element.now) text.now) }
