@@ -25,6 +25,7 @@ pub(crate) struct Bounds {
 
 /// The least normalised coordinate, and the greatest, as raw numbers.
 const LOWEST: i32 = -16_384;
+
 const HIGHEST: i32 = 16_384;
 
 /// Whether a least value, where there is one, exceeds a value.

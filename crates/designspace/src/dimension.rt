@@ -68,12 +68,7 @@ fn read_user_value(alloc: Global, dimension: &Element) -> Result<AxisValue, Stop
 {
     match optional_decimal(alloc, "uservalue", dimension)? {
         Some(value) => Ok(AxisValue::User(value)),
-        None => Err(attribute_fault(
-            alloc,
-            Kind::MissingAttribute,
-            "xvalue",
-            dimension,
-        )),
+        None => Err(attribute_fault(alloc, Kind::MissingAttribute, "xvalue", dimension)),
     }
 }
 

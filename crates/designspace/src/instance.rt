@@ -82,10 +82,7 @@ fn read_each(alloc: Global, axes: &[Axis], elements: &[&Element]) -> Result<Seq<
 }
 
 /// The elements of instances that aren't passed over.
-fn own_elements<'a>(
-    alloc: Global,
-    elements: &[&'a Element],
-) -> Result<Vec<&'a Element>, NoMemory>
+fn own_elements<'a>(alloc: Global, elements: &[&'a Element]) -> Result<Vec<&'a Element>, NoMemory>
     ensures { IfOk result (λ own. map (λ element. plain element.now) own.items ≡ filter rules.is_own (map (λ element. plain element.now) elements.now)) }
 {
     let mut own = Vec::new(alloc);

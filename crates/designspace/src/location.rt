@@ -16,7 +16,10 @@ use std::alloc::Global;
 fn last_on(axis: usize, dimensions: &[Dimension]) -> Option<AxisValue>
     ensures { result ≡ rules.last_on axis dimensions.now }
 {
-    let last = dimensions.iter().rev().find(|dimension| dimension.axis == axis)?;
+    let last = dimensions
+        .iter()
+        .rev()
+        .find(|dimension| dimension.axis == axis)?;
     Some(last.value)
 }
 

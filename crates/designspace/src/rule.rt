@@ -33,7 +33,9 @@ pub(crate) struct Rules {
 
 /// How many rules a document may have, a rule sets, and a rule substitutions.
 const RULES: usize = 64;
+
 const SETS: usize = 16;
+
 const SUBS: usize = 4096;
 
 /// A substitution.

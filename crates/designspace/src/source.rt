@@ -66,12 +66,7 @@ fn optional_name(alloc: Global, text: Option<&str>) -> Result<Option<Name>, NoMe
 
 /// A source.
 #[tactic(auto, unfolding(crate::specs::Sources::source_of))]
-fn read_source(
-    alloc: Global,
-    folder: &str,
-    axes: &[Axis],
-    source: &Element,
-) -> Result<Source, Stop>
+fn read_source(alloc: Global, folder: &str, axes: &[Axis], source: &Element) -> Result<Source, Stop>
     requires { length axes.now ≤ 8 }
     ensures { Gives (λ source. source) result (rules.source_of folder.now axes.now (plain source.now)) }
 {
