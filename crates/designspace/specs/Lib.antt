@@ -2,6 +2,7 @@ pub mod Conditions
 pub mod Dimensions
 pub mod Document
 pub mod Instances
+pub mod Limits
 pub mod Locations
 pub mod Parts
 pub mod Rules

@@ -1,8 +1,9 @@
-ghost use Rattle.std.specs.Prelude.{◌≡◌, ◌≤◌, length, map};
+ghost use Rattle.std.specs.Prelude.{◌≡◌, ◌≤◌, length, map, All, IfOk};
 ghost use Rattle.basics.specs.Reading.{Gives, each};
 ghost use Rattle.markup.specs.Plain.{plain};
 ghost use Rattle.norm_loc.specs.Spans.{limits};
 ghost use Rattle.designspace.specs.Conditions as rules;
+ghost use Rattle.designspace.specs.Limits.{IsConditionOn};
 
 use crate::dimension::{axis_named, unknown_axis};
 use attributes::{needed, optional_decimal};
@@ -82,7 +83,8 @@ fn bound_or(design: &Span, end: Fix<14>, bound: Option<Fix<16>>) -> Fix<14>
 /// into the span.
 #[tactic(auto, unfolding(crate::specs::Conditions::condition_on))]
 fn condition_on(axis: u32, design: &Span, bounds: &Bounds) -> Condition
-    ensures { result ≡ rules.condition_on axis (limits design.now) bounds.now }
+    ensures value { result ≡ rules.condition_on axis (limits design.now) bounds.now }
+    ensures axis { result.axis ≡ axis }
 {
     if is_empty(design, bounds) {
         return Condition {
@@ -116,7 +118,8 @@ pub(crate) fn read_condition(
     condition: &Element,
 ) -> Result<Condition, Stop>
     requires { length axes.now ≤ 8 }
-    ensures { Gives (λ condition. condition) result (rules.condition_of axes.now (plain condition.now)) }
+    ensures exact { Gives (λ condition. condition) result (rules.condition_of axes.now (plain condition.now)) }
+    ensures within { IfOk result (IsConditionOn (length axes.now)) }
 {
     let name = needed(alloc, "name", condition)?;
     match axis_named(name, axes) {
@@ -131,7 +134,8 @@ pub(crate) fn read_condition(
 /// The conditions of these elements.
 fn read_each(alloc: Global, axes: &[Axis], elements: &[&Element]) -> Result<Seq<Condition>, Stop>
     requires { length axes.now ≤ 8 }
-    ensures { Gives (λ set. set) result (each (rules.condition_of axes.now) (map (λ element. plain element.now) elements.now)) }
+    ensures within { IfOk result (All (IsConditionOn (length axes.now))) }
+    ensures exact { Gives (λ set. set) result (each (rules.condition_of axes.now) (map (λ element. plain element.now) elements.now)) }
 {
     let mut set = Seq::new(alloc);
     for element in elements {
@@ -144,7 +148,8 @@ fn read_each(alloc: Global, axes: &[Axis], elements: &[&Element]) -> Result<Seq<
 #[tactic(auto, unfolding(crate::specs::Conditions::set_of))]
 pub(crate) fn read_set(alloc: Global, axes: &[Axis], set: &Element) -> Result<Seq<Condition>, Stop>
     requires { length axes.now ≤ 8 }
-    ensures { Gives (λ set. set) result (rules.set_of axes.now (plain set.now)) }
+    ensures exact { Gives (λ set. set) result (rules.set_of axes.now (plain set.now)) }
+    ensures within { IfOk result (All (IsConditionOn (length axes.now))) }
 {
     let elements = named(alloc, "condition", set)?;
     read_each(alloc, axes, elements.as_slice())

@@ -1,8 +1,9 @@
-ghost use Rattle.std.specs.Prelude.{◌≡◌, ◌==◌, option_map};
+ghost use Rattle.std.specs.Prelude.{◌≡◌, ◌==◌, option_map, IfOk};
 ghost use Rattle.std.specs.List.{before_first};
 ghost use Rattle.basics.specs.Reading.{Gives};
 ghost use Rattle.markup.specs.Plain.{plain};
 ghost use Rattle.designspace.specs.Document as rules;
+ghost use Rattle.designspace.specs.Limits.{IsWithinLimits};
 
 use crate::instance::{Instance, read_instances};
 use crate::rule::{Rule, Rules, read_rules};
@@ -82,7 +83,8 @@ fn check_format(alloc: Global, designspace: &Element) -> Result<(), Stop>
 /// The parts of a document, whose root is a `designspace`.
 #[tactic(auto, unfolding(crate::specs::Document::parts_of))]
 fn read_parts(alloc: Global, designspace: &Element, folder: &str) -> Result<Designspace, Stop>
-    ensures { Gives (λ designspace. designspace) result (rules.parts_of folder.now (plain designspace.now)) }
+    ensures exact { Gives (λ designspace. designspace) result (rules.parts_of folder.now (plain designspace.now)) }
+    ensures within { IfOk result IsWithinLimits }
 {
     check_format(alloc, designspace)?;
     let axes = read_axes(alloc, designspace)?;
@@ -101,7 +103,10 @@ fn read_parts(alloc: Global, designspace: &Element, folder: &str) -> Result<Desi
 /// Reads a designspace document.
 #[tactic(auto, unfolding(crate::specs::Document::designspace_of))]
 pub fn read(alloc: Global, tree: &Element, folder: &str) -> Result<Designspace, Stop>
-    ensures { Gives (λ designspace. designspace) result (rules.designspace_of folder.now (plain tree.now)) }
+    // Which document it is, and which fault.
+    ensures exact { Gives (λ designspace. designspace) result (rules.designspace_of folder.now (plain tree.now)) }
+    // What is read is within limits.
+    ensures within { IfOk result IsWithinLimits }
 {
     if tree.is_named("designspace") {
         read_parts(alloc, tree, folder)

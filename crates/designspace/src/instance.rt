@@ -1,8 +1,8 @@
-ghost use Rattle.std.specs.Prelude.{◌≡◌, map, filter, option_map, codes, IfOk};
+ghost use Rattle.std.specs.Prelude.{◌≡◌, ◌≤◌, length, map, filter, option_map, All, IfOk};
 ghost use Rattle.basics.specs.Reading.{Gives, each_numbered};
 ghost use Rattle.markup.specs.Plain.{plain};
 ghost use Rattle.designspace.specs.Instances as rules;
-ghost use Rattle.designspace.specs.Parts.{listed};
+ghost use Rattle.designspace.specs.Limits.{IsInstanceOn};
 
 use crate::dimension::read_dimensions;
 use crate::location::user_values_of;
@@ -62,7 +62,8 @@ fn read_instance(
     number: usize,
     instance: &Element,
 ) -> Result<Instance, Stop>
-    ensures { Gives (λ instance. instance) result (rules.instance_of axes.now number (plain instance.now)) }
+    ensures exact { Gives (λ instance. instance) result (rules.instance_of axes.now number (plain instance.now)) }
+    ensures within { IfOk result (IsInstanceOn (length axes.now)) }
 {
     let name = read_name(alloc, number, instance)?;
     let dimensions = read_dimensions(alloc, axes, instance)?;
@@ -72,7 +73,9 @@ fn read_instance(
 
 /// The instances of these elements.
 fn read_each(alloc: Global, axes: &[Axis], elements: &[&Element]) -> Result<Seq<Instance>, Stop>
-    ensures { Gives (λ instances. instances) result (each_numbered (rules.instance_of axes.now) 1 (map (λ element. plain element.now) elements.now)) }
+    ensures within { IfOk result (All (IsInstanceOn (length axes.now))) }
+    ensures count { IfOk result (λ instances. length instances ≡ length elements.now) }
+    ensures exact { Gives (λ instances. instances) result (each_numbered (rules.instance_of axes.now) 1 (map (λ element. plain element.now) elements.now)) }
 {
     let mut instances = Seq::new(alloc);
     for (index, element) in elements.iter().enumerate() {
@@ -101,7 +104,9 @@ pub(crate) fn read_instances(
     axes: &[Axis],
     designspace: &Element,
 ) -> Result<Seq<Instance>, Stop>
-    ensures { Gives (λ instances. instances) result (rules.instances_of axes.now (plain designspace.now)) }
+    ensures exact { Gives (λ instances. instances) result (rules.instances_of axes.now (plain designspace.now)) }
+    ensures within { IfOk result (All (IsInstanceOn (length axes.now))) }
+    ensures few { IfOk result (λ instances. length instances ≤ 256) }
 {
     let elements = listed(alloc, "instances", "instance", designspace)?;
     let elements = own_elements(alloc, elements.as_slice())?;

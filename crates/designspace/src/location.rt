@@ -1,4 +1,6 @@
-ghost use Rattle.std.specs.Prelude.{◌≡◌, ◌≤◌, length, IfOk};
+ghost use Rattle.std.specs.Prelude.{◌≡◌, ◌≤◌, length, All, IfOk};
+ghost use Rattle.arrayvec.specs.ArrayVec.{array_vec_len};
+ghost use Rattle.region_support.specs.Regions.{IsNormalised};
 ghost use Rattle.norm_loc.specs.Normalising.{brought};
 ghost use Rattle.norm_loc.specs.Spans.{limits};
 ghost use Rattle.designspace.specs.Locations as rules;
@@ -82,7 +84,8 @@ fn user_value(map: &AxisMap, value: Option<AxisValue>) -> Fix<16>
 /// The normalised coordinate on the axis with this number.
 #[tactic(auto, unfolding(crate::specs::Locations::coordinate_on))]
 fn coordinate_on(dimensions: &[Dimension], number: usize, axis: &Axis) -> Fix<14>
-    ensures { result ≡ rules.coordinate_on dimensions.now number axis.now }
+    ensures value { result ≡ rules.coordinate_on dimensions.now number axis.now }
+    ensures within { IsNormalised result }
 {
     let value = design_value(&axis.map, last_on(number, dimensions));
     normalise(&axis.map.design(), value)
@@ -92,7 +95,9 @@ fn coordinate_on(dimensions: &[Dimension], number: usize, axis: &Axis) -> Fix<14
 #[tactic(auto, unfolding(crate::specs::Locations::location_of))]
 pub(crate) fn location_of(dimensions: &[Dimension], axes: &[Axis]) -> Location
     requires { length axes.now ≤ 8 }
-    ensures { result ≡ rules.location_of dimensions.now axes.now }
+    ensures value { result ≡ rules.location_of dimensions.now axes.now }
+    ensures count { array_vec_len result ≡ length axes.now }
+    ensures within { All IsNormalised result.items }
 {
     let mut at = ArrayVec::new();
     for (number, axis) in axes.iter().enumerate() {
@@ -107,7 +112,8 @@ pub(crate) fn user_values_of(
     dimensions: &[Dimension],
     axes: &[Axis],
 ) -> Result<Seq<Fix<16>>, NoMemory>
-    ensures { IfOk result (λ values. values ≡ rules.user_values_from dimensions.now 0 axes.now) }
+    ensures value { IfOk result (λ values. values ≡ rules.user_values_from dimensions.now 0 axes.now) }
+    ensures count { IfOk result (λ values. length values ≡ length axes.now) }
 {
     let mut values = Seq::new(alloc);
     for (number, axis) in axes.iter().enumerate() {

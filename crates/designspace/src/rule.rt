@@ -1,6 +1,7 @@
-ghost use Rattle.std.specs.Prelude.{◌≡◌, ◌≤◌, ◌<◌, ◌^◌, length, map, option_map, IfOk};
+ghost use Rattle.std.specs.Prelude.{◌≡◌, ◌≤◌, ◌<◌, ◌^◌, length, map, option_map, All, IfOk};
 ghost use Rattle.basics.specs.Reading.{Gives, each, each_numbered};
 ghost use Rattle.markup.specs.Plain.{plain};
+ghost use Rattle.designspace.specs.Limits.{IsRuleOn};
 ghost use Rattle.designspace.specs.Rules as words;
 
 use crate::parts::check_few;
@@ -53,7 +54,8 @@ fn read_sub(alloc: Global, sub: &Element) -> Result<(Name, Name), Stop>
 
 /// The substitutions of these elements.
 fn read_subs(alloc: Global, elements: &[&Element]) -> Result<Seq<(Name, Name)>, Stop>
-    ensures { Gives (λ subs. subs) result (each words.sub_of (map (λ element. plain element.now) elements.now)) }
+    ensures exact { Gives (λ subs. subs) result (each words.sub_of (map (λ element. plain element.now) elements.now)) }
+    ensures count { IfOk result (λ subs. length subs ≡ length elements.now) }
 {
     let mut subs = Seq::new(alloc);
     for element in elements {
@@ -79,7 +81,8 @@ fn set_count(alloc: Global, rule: &Element) -> Result<usize, NoMemory>
 #[tactic(auto, unfolding(crate::specs::Rules::rule_of, crate::specs::Rules::subs_of))]
 fn read_rule(alloc: Global, axes: &[Axis], number: u64, rule: &Element) -> Result<Rule, Stop>
     requires { length axes.now ≤ 8 }
-    ensures { Gives (λ rule. rule) result (words.rule_of axes.now number (plain rule.now)) }
+    ensures exact { Gives (λ rule. rule) result (words.rule_of axes.now number (plain rule.now)) }
+    ensures within { IfOk result (IsRuleOn (length axes.now)) }
 {
     let count = set_count(alloc, rule)?;
     check_few(alloc, Kind::TooManySets, number, SETS, count)?;
@@ -109,7 +112,9 @@ fn is_last(alloc: Global, rules: &Element, processing: Option<&str>) -> Result<b
 /// The rules of these elements.
 fn read_each(alloc: Global, axes: &[Axis], elements: &[&Element]) -> Result<Seq<Rule>, Stop>
     requires { length axes.now ≤ 8 }
-    ensures { Gives (λ list. list) result (each_numbered (words.rule_of axes.now) 0 (map (λ element. plain element.now) elements.now)) }
+    ensures exact { Gives (λ list. list) result (each_numbered (words.rule_of axes.now) 0 (map (λ element. plain element.now) elements.now)) }
+    ensures within { IfOk result (All (IsRuleOn (length axes.now))) }
+    ensures count { IfOk result (λ list. length list ≡ length elements.now) }
 {
     let mut list = Seq::new(alloc);
     for (number, element) in elements.iter().enumerate() {
@@ -122,7 +127,9 @@ fn read_each(alloc: Global, axes: &[Axis], elements: &[&Element]) -> Result<Seq<
 #[tactic(auto, unfolding(crate::specs::Rules::rules_in))]
 fn read_element(alloc: Global, axes: &[Axis], rules: &Element) -> Result<Rules, Stop>
     requires { length axes.now ≤ 8 }
-    ensures { Gives (λ found. found) result (words.rules_in axes.now (plain rules.now)) }
+    ensures exact { Gives (λ found. found) result (words.rules_in axes.now (plain rules.now)) }
+    ensures within { IfOk result (λ found. All (IsRuleOn (length axes.now)) found.rules) }
+    ensures few { IfOk result (λ found. length found.rules ≤ 64) }
 {
     let elements = named(alloc, "rule", rules)?;
     check_few(alloc, Kind::TooManyRules, 0, RULES, elements.len())?;
@@ -135,7 +142,9 @@ fn read_element(alloc: Global, axes: &[Axis], rules: &Element) -> Result<Rules, 
 #[tactic(auto, unfolding(crate::specs::Rules::rules_of))]
 pub(crate) fn read_rules(alloc: Global, axes: &[Axis], designspace: &Element) -> Result<Rules, Stop>
     requires { length axes.now ≤ 8 }
-    ensures { Gives (λ found. found) result (words.rules_of axes.now (plain designspace.now)) }
+    ensures exact { Gives (λ found. found) result (words.rules_of axes.now (plain designspace.now)) }
+    ensures within { IfOk result (λ found. All (IsRuleOn (length axes.now)) found.rules) }
+    ensures few { IfOk result (λ found. length found.rules ≤ 64) }
 {
     match first_named("rules", designspace) {
         Some(element) => read_element(alloc, axes, element),

@@ -1,6 +1,7 @@
 ghost use Rattle.std.specs.Prelude.{◌≡◌, ◌≤◌, length, map, IfOk};
 ghost use Rattle.basics.specs.Reading.{Gives, in_turn};
 ghost use Rattle.markup.specs.Plain.{plain};
+ghost use Rattle.designspace.specs.Limits.{AreSetsOn, IsSortedOn};
 ghost use Rattle.designspace.specs.Rules as rules;
 
 use crate::condition::{read_condition, read_set};
@@ -39,8 +40,10 @@ fn read_child(
     mut sorted: Sorted,
     child: &Element,
 ) -> Result<Sorted, Stop>
-    requires { length axes.now ≤ 8 }
-    ensures { Gives (λ sorted. sorted) result (rules.child_of axes.now sorted (plain child.now)) }
+    requires few { length axes.now ≤ 8 }
+    requires sorted { IsSortedOn (length axes.now) sorted }
+    ensures exact { Gives (λ sorted. sorted) result (rules.child_of axes.now sorted (plain child.now)) }
+    ensures within { IfOk result (IsSortedOn (length axes.now)) }
 {
     if child.is_named("condition") {
         sorted.direct.push(read_condition(alloc, axes, child)?)?;
@@ -53,7 +56,8 @@ fn read_child(
 /// What is sorted of all children of the rule.
 fn read_children(alloc: Global, axes: &[Axis], children: &[Element]) -> Result<Sorted, Stop>
     requires { length axes.now ≤ 8 }
-    ensures { Gives (λ sorted. sorted) result (in_turn (rules.child_of axes.now) rules.nothing_sorted (map plain children.now)) }
+    ensures exact { Gives (λ sorted. sorted) result (in_turn (rules.child_of axes.now) rules.nothing_sorted (map plain children.now)) }
+    ensures within { IfOk result (IsSortedOn (length axes.now)) }
 {
     let mut sorted = Sorted::new(alloc);
     for child in children {
@@ -79,7 +83,8 @@ fn direct_first(direct: Seq<Condition>, sets: Sets) -> Result<Sets, NoMemory>
 #[tactic(auto, unfolding(crate::specs::Rules::sets_of))]
 pub(crate) fn read_sets(alloc: Global, axes: &[Axis], rule: &Element) -> Result<Sets, Stop>
     requires { length axes.now ≤ 8 }
-    ensures { Gives (λ sets. sets) result (rules.sets_of axes.now (plain rule.now)) }
+    ensures exact { Gives (λ sets. sets) result (rules.sets_of axes.now (plain rule.now)) }
+    ensures within { IfOk result (AreSetsOn (length axes.now)) }
 {
     let Sorted { direct, sets } = read_children(alloc, axes, rule.children())?;
     Ok(direct_first(direct, sets)?)

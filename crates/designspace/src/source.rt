@@ -1,7 +1,8 @@
-ghost use Rattle.std.specs.Prelude.{◌≡◌, ◌≤◌, length, map, option_map, IfOk};
+ghost use Rattle.std.specs.Prelude.{◌≡◌, ◌≤◌, length, map, option_map, All, IfOk};
 ghost use Rattle.basics.specs.Reading.{Gives, each};
 ghost use Rattle.markup_rules.specs.Tree.{attribute_of};
 ghost use Rattle.markup.specs.Plain.{plain};
+ghost use Rattle.designspace.specs.Limits.{IsSourceOn};
 ghost use Rattle.designspace.specs.Sources as rules;
 
 use crate::dimension::read_dimensions;
@@ -68,7 +69,8 @@ fn optional_name(alloc: Global, text: Option<&str>) -> Result<Option<Name>, NoMe
 #[tactic(auto, unfolding(crate::specs::Sources::source_of))]
 fn read_source(alloc: Global, folder: &str, axes: &[Axis], source: &Element) -> Result<Source, Stop>
     requires { length axes.now ≤ 8 }
-    ensures { Gives (λ source. source) result (rules.source_of folder.now axes.now (plain source.now)) }
+    ensures exact { Gives (λ source. source) result (rules.source_of folder.now axes.now (plain source.now)) }
+    ensures within { IfOk result (IsSourceOn (length axes.now)) }
 {
     let filename = needed(alloc, "filename", source)?;
     let dimensions = read_dimensions(alloc, axes, source)?;
@@ -89,7 +91,9 @@ fn read_each(
     elements: &[&Element],
 ) -> Result<Seq<Source>, Stop>
     requires { length axes.now ≤ 8 }
-    ensures { Gives (λ sources. sources) result (each (rules.source_of folder.now axes.now) (map (λ element. plain element.now) elements.now)) }
+    ensures exact { Gives (λ sources. sources) result (each (rules.source_of folder.now axes.now) (map (λ element. plain element.now) elements.now)) }
+    ensures within { IfOk result (All (IsSourceOn (length axes.now))) }
+    ensures count { IfOk result (λ sources. length sources ≡ length elements.now) }
 {
     let mut sources = Seq::new(alloc);
     for element in elements {
@@ -107,7 +111,9 @@ pub(crate) fn read_sources(
     designspace: &Element,
 ) -> Result<Seq<Source>, Stop>
     requires { length axes.now ≤ 8 }
-    ensures { Gives (λ sources. sources) result (rules.sources_of folder.now axes.now (plain designspace.now)) }
+    ensures exact { Gives (λ sources. sources) result (rules.sources_of folder.now axes.now (plain designspace.now)) }
+    ensures within { IfOk result (All (IsSourceOn (length axes.now))) }
+    ensures few { IfOk result (λ sources. length sources ≤ 128) }
 {
     let elements = listed(alloc, "sources", "source", designspace)?;
     check_few(alloc, Kind::TooManySources, 0, SOURCES, elements.len())?;
