@@ -35,7 +35,7 @@ instance_of axes number tree = do
 unfoldable pub instances_in : List Axis → List Tree → Result (List Instance) Spot
 instances_in axes trees = few TooManyInstances 0 256 (length trees) >>= λ _. each_numbered (instance_of axes) 1 trees
 
--- an instance with an attribute `location` names a place of another list, and is passed over
+-- an instance with an attribute `location` lies where a label of that name tells, and is passed over
 abbrev pub is_own : Tree → Bool
 is_own tree = is_none (attribute_of (codes "location") tree)
 

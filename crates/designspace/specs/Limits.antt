@@ -2,6 +2,7 @@
 -- numbers.
 use Rattle.std.specs.Prelude.{◌≡◌, ℕ, ◌<◌, ◌≤◌, List, length, All}
 use Rattle.arrayvec.specs.ArrayVec.{array_vec_len}
+use Rattle.font_text.specs.Utf16.{utf16_length}
 use Rattle.region_support.specs.Regions.{IsNormalised}
 use Rattle.design_axes.specs.Axes.{AreFew, IsShort}
 use Rattle.rule_boxes.specs.declared.condition.Condition.{Condition}
@@ -28,12 +29,18 @@ pub record IsSortedOn (axes : ℕ) (sorted : Sorted) : Type 0 where
   pub sets : AreSetsOn axes sorted.sets
 
 pub record IsRuleOn (axes : ℕ) (rule : Rule) : Type 0 where
+  pub few_sets : length rule.sets ≤ 16
   pub conditions : AreSetsOn axes rule.sets
-  pub subs : length rule.subs ≤ 4096
+  pub few_subs : length rule.subs ≤ 4096
+
+-- at most 100 units of UTF-16
+abbrev pub IsBrief : List ℕ → Type 0
+IsBrief name = utf16_length name ≤ 100
 
 -- a user value on each of so many axes
-abbrev pub IsInstanceOn : ℕ → Instance → Type 0
-IsInstanceOn axes instance = length instance.user ≡ axes
+pub record IsInstanceOn (axes : ℕ) (instance : Instance) : Type 0 where
+  pub name : IsBrief instance.name
+  pub values : length instance.user ≡ axes
 
 pub record IsWithinLimits (designspace : Designspace) : Type 0 where
   pub axes : AreFew designspace.axes

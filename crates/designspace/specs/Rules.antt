@@ -45,7 +45,7 @@ set_count tree = with_direct (length (named (codes "conditionset") tree)) (first
 
 -- ---- its substitutions
 
--- a name, and the one that stands in its place
+-- a name, and the one that replaces it
 unfoldable pub sub_of : Tree → Result (List ℕ × List ℕ) Spot
 sub_of tree = do
   name ← needed (codes "name") tree

@@ -100,7 +100,46 @@ fn read_parts(alloc: Global, designspace: &Element, folder: &str) -> Result<Desi
     })
 }
 
-/// Reads a designspace document.
+/// Reads a designspace document (Designspace 4 and 5) off its tree, whose file lies in the folder: empty for no folder,
+/// and `/` for the root of all.
+///
+/// Of `axes`, `sources`, `rules` and `instances` the first element of each name is read; an absent one has no items. Of
+/// these the items alone are read, each an `axis`, a `source`, a `rule` or an `instance`, in their order. Other elements,
+/// and attributes that aren't named here, are passed over.
+///
+/// A `source` has the `filename` of its UFO folder and perhaps a `layer`. It lies at the normalised coordinate, in the
+/// design span of each axis, of a design value: the `xvalue` of the last `dimension` with the axis's `name` in its first
+/// `location`; or else its `uservalue`, mapped; or the default, where there is no such dimension.
+///
+/// A `rule` has `condition`s in `conditionset`s, each of these a set, and perhaps in itself: those are one more set, the
+/// first. A condition bounds the axis with its `name`, by the design values `minimum` and `maximum`, each of which may be
+/// absent. Where no design value of the axis is between them, it is told as 1 to -1, which never holds. A `sub` replaces
+/// the glyph `name` by the glyph `with`. The rules act last where their `processing` is `last`, and else first.
+///
+/// An `instance` with an attribute `location` is passed over. Another one is called by its `stylename`, or else its
+/// `name`, or else `Instance` and its number, counted from 1. Its user values are told as the location of a source is, a
+/// design value being mapped back, and a user value brought between the axis's least and greatest one.
+///
+/// # Errors
+///
+/// `Stop::NoMemory` where memory ran out, or else `Stop::At` with the first fault. Its `at` is the offset in bytes of
+/// the element that is named here, `item` and `first` are what is said here, and all else is empty or 0. A number that is
+/// faulty is NotNumber or NumberRange, its item being the attribute. Tested are, in this order:
+///
+/// 1. the root: NotDesignspace where it isn't a `designspace`; FormatVersion where the whole number before the first
+///    point of `format` isn't 4 or 5, with `at` 0 and that number as `first`, or -1 where there is none;
+/// 2. the axes, as `design_axes::read_axes` says;
+/// 3. TooManySources with their count as `first` and `at` 0; then of each source MissingAttribute of the item `filename`,
+///    and its dimensions: of each MissingAttribute of the item `name`; UnknownAxis with the name as its item; Anisotropic
+///    where there is a `yvalue`; the number `xvalue`, or else the number `uservalue`, or else MissingAttribute of the item
+///    `xvalue`;
+/// 4. TooManyRules with their count; NotDesignspace at `rules` where `processing` is another text than `first` and
+///    `last`; then of each rule TooManySets where it has more than 16 sets, and TooManySubs where it has more than 4,096
+///    substitutions, with the rule's number, counted from 0, as `at` and the count as `first`; its conditions, wherever
+///    they stand, each MissingAttribute of the item `name`, UnknownAxis, the numbers `minimum` and `maximum`; its
+///    substitutions, each MissingAttribute of the item `name` and of the item `with`;
+/// 5. TooManyInstances with their count; then of each instance NameLength, where its name has more than 100 units of
+///    UTF-16, with the attribute as the item and how many as `first`, and its dimensions as those of a source.
 #[tactic(auto, unfolding(crate::specs::Document::designspace_of))]
 pub fn read(alloc: Global, tree: &Element, folder: &str) -> Result<Designspace, Stop>
     // Which document it is, and which fault.

@@ -2,7 +2,7 @@ ghost use Rattle.std.specs.Prelude.{◌≡◌, ◌≤◌, length, map, filter, o
 ghost use Rattle.basics.specs.Reading.{Gives, each_numbered};
 ghost use Rattle.markup.specs.Plain.{plain};
 ghost use Rattle.designspace.specs.Instances as rules;
-ghost use Rattle.designspace.specs.Limits.{IsInstanceOn};
+ghost use Rattle.designspace.specs.Limits.{IsBrief, IsInstanceOn};
 
 use crate::dimension::read_dimensions;
 use crate::location::user_values_of;
@@ -26,13 +26,15 @@ pub struct Instance {
 const INSTANCES: usize = 256;
 
 /// The name of the instance with this number that has no name of a style.
+#[tactic(auto, using(crate::proofs::Names::short_read, crate::proofs::Names::made_brief))]
 fn own_name(
     alloc: Global,
     number: usize,
     instance: &Element,
     name: Option<&str>,
 ) -> Result<Name, Stop>
-    ensures { Gives (λ name. name) result (rules.own_name number (plain instance.now) (option_map (λ text. text.now) name.entry)) }
+    ensures exact { Gives (λ name. name) result (rules.own_name number (plain instance.now) (option_map (λ text. text.now) name.entry)) }
+    ensures brief { IfOk result IsBrief }
 {
     match name {
         Some(name) => short_name(alloc, "name", instance, name),
@@ -44,9 +46,10 @@ fn own_name(
 }
 
 /// The name of the instance with this number.
-#[tactic(auto, unfolding(crate::specs::Instances::name_of))]
+#[tactic(auto, using(crate::proofs::Names::short_read), unfolding(crate::specs::Instances::name_of))]
 fn read_name(alloc: Global, number: usize, instance: &Element) -> Result<Name, Stop>
-    ensures { Gives (λ name. name) result (rules.name_of number (plain instance.now)) }
+    ensures exact { Gives (λ name. name) result (rules.name_of number (plain instance.now)) }
+    ensures brief { IfOk result IsBrief }
 {
     match instance.attribute("stylename") {
         Some(name) => short_name(alloc, "stylename", instance, name),

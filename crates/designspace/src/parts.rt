@@ -24,7 +24,7 @@ pub(crate) fn listed<'a>(
     }
 }
 
-/// Tests that there are at most so many; the place of the fault is the number that is given.
+/// Tests that there are at most so many; a fault has the number that is given and the count.
 #[tactic(auto, unfolding(crate::specs::Parts::few))]
 pub(crate) fn check_few(
     alloc: Global,

@@ -16,10 +16,10 @@ use std::alloc::Global;
 /// A rule of substitution (Designspace, "rule").
 #[derive(Drop)]
 pub struct Rule {
-    /// Where it holds.
+    /// Where it holds: the sets of its conditions, at most 16.
     pub sets: Sets,
-    /// The name of a glyph, and of the one that stands in its place where the rule holds. The first with a glyph's name
-    /// counts.
+    /// The name of a glyph, and of the one that replaces it where the rule holds; at most 4,096. Of several for one
+    /// glyph the first counts.
     pub subs: Seq<(Name, Name)>,
 }
 

@@ -78,13 +78,14 @@ fn direct_first(direct: Seq<Condition>, sets: Sets) -> Result<Sets, NoMemory>
     Ok(Seq::from_vec(sets))
 }
 
-/// The sets of conditions of a rule. The direct conditions are placed first, though faults come in the order of the
+/// The sets of conditions of a rule. The direct conditions are the first set, though faults come in the order of the
 /// document.
 #[tactic(auto, unfolding(crate::specs::Rules::sets_of))]
 pub(crate) fn read_sets(alloc: Global, axes: &[Axis], rule: &Element) -> Result<Sets, Stop>
     requires { length axes.now ≤ 8 }
     ensures exact { Gives (λ sets. sets) result (rules.sets_of axes.now (plain rule.now)) }
     ensures within { IfOk result (AreSetsOn (length axes.now)) }
+    ensures count { IfOk result (λ sets. length sets ≡ rules.set_count (plain rule.now)) }
 {
     let Sorted { direct, sets } = read_children(alloc, axes, rule.children())?;
     Ok(direct_first(direct, sets)?)
