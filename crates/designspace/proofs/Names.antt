@@ -1,12 +1,12 @@
 -- The names of instances are short, those that are made as well.
-use Rattle.std.proofs.Common.{◌≡◌, ℕ, ◌+◌, ◌*◌, ◌<◌, ◌≤◌, ◌^◌, List, [], ◌∷◌, ◌++◌, length, codes, sum_by, Ok, Err, refl, subst, lit<, length-append, arith}
+use Rattle.std.proofs.Common.{ℕ, ◌*◌, ◌<◌, ◌≤◌, ◌^◌, List, [], ◌∷◌, ◌++◌, length, codes, sum_by, Ok, Err, subst, lit<, length-append, arith}
 use Rattle.std.specs.Prelude.{IfOk, Result, decimal, nat_le}
 use Rattle.std.proofs.lemmas.Bool.Decides.{nat_tests}
 use Rattle.std.proofs.lemmas.Fmt.{IsAscii-decimal, length-decimal-le}
 use Rattle.std.proofs.lemmas.List.Sums.{sum_by-cons}
 use Rattle.std.proofs.lemmas.Str.{IsAscii-append, chars-IsAscii}
 use Rattle.std.proofs.lemmas.Str.Ascii.{IsAscii-cons, IsAscii-nil}
-use Rattle.std.specs.Str.{IsAscii, chars}
+use Rattle.std.specs.Str.{IsAscii}
 use Rattle.attributes.proofs.Readings.{chosen}
 use Rattle.basics.specs.Reading.{Gives}
 use Rattle.basics.specs.declared.fault.Spot.{Spot}

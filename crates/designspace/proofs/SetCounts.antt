@@ -1,12 +1,10 @@
 -- A rule has as many sets as are counted before they are read.
-use Rattle.std.proofs.Common.{◌≡◌, ℕ, ◌+◌, Bool, true, false, List, [], ◌∷◌, ◌++◌, length, map, filter, codes, Option, Some, None, Ok, Err, refl, sym, ◌∙◌, ap, subst, arith, suc, ◌⊎◌, inl, inr}
+use Rattle.std.proofs.Common.{◌≡◌, ℕ, ◌+◌, Bool, true, false, List, [], ◌∷◌, length, filter, codes, Some, None, Ok, Err, refl, sym, ◌∙◌, subst, arith, suc, ◌⊎◌, inl, inr}
 use Rattle.std.specs.Prelude.{IfOk, Result, find}
-use Rattle.std.specs.Str.{bytes_eq}
-use Rattle.std.proofs.lemmas.Bool.Decides.{when_true}
 use Rattle.std.proofs.lemmas.List.{length_push}
 use Rattle.std.proofs.lemmas.Slice.Eq.{bytes_eq-Decides}
 use Rattle.attributes.proofs.Readings.{after_any, then_ok}
-use Rattle.basics.specs.Reading.{◌>>=◌, Gives, in_turn}
+use Rattle.basics.specs.Reading.{Gives, in_turn}
 use Rattle.basics.specs.declared.fault.Spot.{Spot}
 use Rattle.basics.specs.declared.fault.Stop.{Stop}
 use Rattle.markup_rules.specs.Tree.{Tree, children_of, is_named, name_of}

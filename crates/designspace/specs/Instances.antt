@@ -1,5 +1,5 @@
 -- The named instances of a design space (Designspace, "instance"), or the first fault.
-use Rattle.std.specs.Prelude.{ℕ, Bool, List, [], ◌++◌, length, filter, codes, decimal, Option, Some, None, is_none, Result, Ok}
+use Rattle.std.specs.Prelude.{ℕ, Bool, List, ◌++◌, length, filter, codes, decimal, Option, Some, None, is_none, Result, Ok}
 use Rattle.markup_rules.specs.Tree.{Tree, attribute_of}
 use Rattle.basics.specs.Reading.{◌>>=◌, each_numbered}
 use Rattle.basics.specs.declared.kinds.Kind.TheVariants.{TooManyInstances}

@@ -1,5 +1,5 @@
 -- When a rule holds (Designspace, "rules"). A location is the list of its normalised coordinates, one an axis.
-use Rattle.std.specs.Prelude.{ℕ, ℤ, int_le, Bool, ◌&&◌, List}
+use Rattle.std.specs.Prelude.{ℤ, int_le, Bool, ◌&&◌, List}
 use Rattle.std.specs.List.{list_all, list_any}
 use Rattle.region_support.specs.MasterOrder.{value_on}
 use Rattle.rule_boxes.specs.declared.condition.Condition.{Condition}

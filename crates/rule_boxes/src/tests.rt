@@ -15,8 +15,11 @@ type Listed = &'static [&'static [Bounds]];
 
 /// On the first axis from 8192 on, and on the second one up to 0.
 const HEAVY: &[Bounds] = &[(0, 8192, 16384)];
+
 const NARROW: &[Bounds] = &[(1, -16384, 0)];
+
 const BOTH: &[Bounds] = &[(0, 8192, 16384), (1, -16384, 0)];
+
 const NEVER: &[Bounds] = &[(0, 16384, -16384)];
 
 /// The sets of a rule, a location, and whether the rule holds there.
