@@ -28,6 +28,7 @@ none_or_duplicate axis (Some earlier) = axis_fault DuplicateAxis earlier axis
 unfoldable pub distinct : List Axis → Identity → Result (Unit {0}) Spot
 distinct earlier identity = none_or_duplicate (length earlier) (position (has_either identity) earlier)
 
+-- the axis of an element
 unfoldable pub axis_of : List Axis → Tree → Result Axis Spot
 axis_of earlier tree = do
   identity ← identity_of (length earlier) tree
@@ -37,24 +38,25 @@ axis_of earlier tree = do
   mapping ← mapping_of (length earlier) user tree
   Ok (record { tag = identity.tag; name = identity.name; label = label; hidden = is_hidden tree; map = mapping })
 
+-- the earlier axes and one more
 abbrev pub and_axis : List Axis → Tree → Result (List Axis) Spot
 and_axis earlier tree = axis_of earlier tree >>= λ axis. Ok (earlier ++ axis ∷ [])
 
 -- ---- all axes
 
--- one to eight of them
 abbrev pub no_axes : {A : Type 0} → Result A Spot
 no_axes = Err (spot_of NoAxes [] 0 (pos 0))
 
+-- there are one to eight
 unfoldable pub counted : List Tree → Result (Unit {0}) Spot
 counted [] = no_axes
 counted (t ∷ ts) = if nat_le (length (t ∷ ts)) 8 then Ok tt else Err (spot_of TooManyAxes [] 0 (pos (length (t ∷ ts))))
 
--- a map that takes several axes together, of Designspace 5
 abbrev pub has_children : List Tree → Bool
 has_children [] = Bool.false
 has_children (t ∷ ts) = Bool.true
 
+-- a map that takes several axes together (Designspace, "mappings")
 abbrev pub is_cross_map : Tree → Bool
 is_cross_map tree = is_named (codes "mappings") tree && has_children (children_of tree)
 
@@ -62,6 +64,7 @@ abbrev pub none_or_cross_map : Option Tree → Result (Unit {0}) Spot
 none_or_cross_map None = Ok tt
 none_or_cross_map (Some tree) = fault CrossAxisMap tree
 
+-- those of an element `axes`
 unfoldable pub axes_in : Tree → Result (List Axis) Spot
 axes_in tree = do
   some ← counted (named (codes "axis") tree)
@@ -69,11 +72,12 @@ axes_in tree = do
   alone ← none_or_cross_map (find is_cross_map (children_of tree))
   Ok axes
 
--- those of the first `axes`; a document without one has no axes
+-- those of the first such element; a document without one has no axes
 abbrev pub axes_by : Option Tree → Result (List Axis) Spot
 axes_by None = no_axes
 axes_by (Some tree) = axes_in tree
 
+-- the axes of a document, off its root element
 unfoldable pub axes_of : Tree → Result (List Axis) Spot
 axes_of designspace = axes_by (first_named (codes "axes") designspace)
 

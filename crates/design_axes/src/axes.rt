@@ -107,8 +107,9 @@ fn read_element(alloc: Global, element: &Element) -> Result<Seq<Axis>, Stop>
 ///    `also`; NameLength of the item `labelname`, at the offset of that element;
 /// 4. the numbers `input` and `output` of each node; MapOrder where the inputs and outputs of the nodes don't rise,
 ///    with the first such node as `also`; MapRange where the least or the greatest user value becomes a design value
-///    that 16 binary places don't hold; MapCollapse where the pair of a node stands against an earlier one, with the
-///    node as `also`, or where one side of the axis has no design values, with the number of nodes;
+///    that 16 binary places don't hold; MapCollapse where the pair of a node stands against an earlier one's or
+///    against one that every axis has, with the node as `also`, or where one side of the axis has user values and no
+///    design values, with the number of nodes as `also`;
 /// 5. after all axes CrossAxisMap at the offset of the first `mappings` with an element in it, a map that takes several
 ///    axes together.
 #[tactic(auto, unfolding(crate::specs::Axes::axes_of))]

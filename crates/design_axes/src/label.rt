@@ -45,10 +45,7 @@ pub(crate) fn read_label(alloc: Global, name: &Name, axis: &Element) -> Result<N
 {
     match english_label(axis) {
         Some(label) => short_name(alloc, "labelname", label, label.text()),
-        None => {
-            let label = name.try_copy(alloc)?;
-            Ok(label)
-        }
+        None => Ok(name.try_copy(alloc)?),
     }
 }
 

@@ -22,8 +22,7 @@ pub fn short_name(alloc: Global, item: &str, element: &Element, text: &str) -> R
 {
     let units = utf16_length(text);
     if units <= NAME_UNITS {
-        let text = Name::from_str(alloc, text)?;
-        Ok(text)
+        Ok(Name::from_str(alloc, text)?)
     } else {
         Err(stop_at(
             alloc,
