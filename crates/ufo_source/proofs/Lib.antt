@@ -1,0 +1,3 @@
+mod Codes
+mod Empty
+mod Named
