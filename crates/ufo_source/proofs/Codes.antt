@@ -17,10 +17,10 @@ or_more false true b = refl
 or_more false false true = refl
 or_more false false false = refl
 
-pub codes_more : (codes : List ℕ) (i code : ℕ) (before old new : ℕ → Bool) (q : ℕ) → i < length codes → code ≡ get_or codes i code → new q ≡ cond (is_eq (nat_cmp code q)) true (old q)
+pub codes_more : (codes : List ℕ) (i : ℕ) (before old new : ℕ → Bool) (q : ℕ) → i < length codes → new q ≡ cond (is_eq (nat_cmp (get_or codes i 0) q)) true (old q)
     → old q ≡ (before q || list_any (λ other. other == q) (take i codes)) → new q ≡ (before q || list_any (λ other. other == q) (take (i + 1) codes))
-codes_more codes i code before old new q less is updated kept =
-    updated ∙ ap (cond (is_eq (nat_cmp code q)) true) kept
-    ∙ or_more (is_eq (nat_cmp code q)) (before q) (list_any (λ other. other == q) (take i codes))
-    ∙ ap (λ e. before q || (list_any (λ other. other == q) (take i codes) || e)) (same_code code q ∙ ap (λ c. c == q) is)
-    ∙ ap (λ b. before q || b) (sym (list_any_more (λ other. other == q) codes i code less))
+codes_more codes i before old new q less updated kept =
+    updated ∙ ap (cond (is_eq (nat_cmp (get_or codes i 0) q)) true) kept
+    ∙ or_more (is_eq (nat_cmp (get_or codes i 0) q)) (before q) (list_any (λ other. other == q) (take i codes))
+    ∙ ap (λ e. before q || (list_any (λ other. other == q) (take i codes) || e)) (same_code (get_or codes i 0) q)
+    ∙ ap (λ b. before q || b) (sym (list_any_more (λ other. other == q) codes i 0 less))

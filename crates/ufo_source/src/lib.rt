@@ -16,6 +16,8 @@ mod order;
 mod paths;
 mod property_lists;
 mod taken;
+#[cfg(test)]
+mod tests;
 mod wanted;
 
 pub use folder::{Master, read};
