@@ -30,13 +30,21 @@ missing = spot_of MissingFile [] 0 (pos 0)
 abbrev pub too_long : ℕ → Spot
 too_long length = spot_of FileTooLong [] 0 (pos (min length (2 ^ 63 - 1)))
 
--- the bytes of a file that is there and has at most 67,108,864
-abbrev pub bytes_of : Option (List ℕ) → Result (List ℕ) Spot
-bytes_of None = Err missing
-bytes_of (Some bytes) = if nat_le (length bytes) 67108864 then Ok bytes else Err (too_long (length bytes))
+-- the bytes of a file that has at most 67,108,864, if there is one
+abbrev pub found_of : Option (List ℕ) → Result (Option (List ℕ)) Spot
+found_of None = Ok None
+found_of (Some bytes) = if nat_le (length bytes) 67108864 then Ok (Some bytes) else Err (too_long (length bytes))
+
+abbrev pub found_at : Files → List ℕ → Result (Option (List ℕ)) Fault
+found_at files path = in_file path (found_of (files path))
+
+-- the bytes of a file that must be there
+abbrev pub there : Option (List ℕ) → Result (List ℕ) Spot
+there None = Err missing
+there (Some bytes) = Ok bytes
 
 abbrev pub bytes_at : Files → List ℕ → Result (List ℕ) Fault
-bytes_at files path = in_file path (bytes_of (files path))
+bytes_at files path = found_at files path >>= λ found. in_file path (there found)
 
 -- what a file's bytes mean
 abbrev pub meant_at : {A : Type 0} → (List ℕ → Result A Spot) → Files → List ℕ → Result A Fault
@@ -46,6 +54,14 @@ meant_at meaning files path = bytes_at files path >>= λ bytes. in_file path (me
 -- these faults.
 abbrev pub tree_at : Files → List ℕ → Result Tree Fault
 tree_at files path = meant_at outcome files path
+
+-- the tree of a file's text, if there is such a file, or the first fault
+abbrev pub tree_or_none : List ℕ → Option (List ℕ) → Result (Option Tree) Fault
+tree_or_none path None = Ok None
+tree_or_none path (Some bytes) = in_file path (outcome bytes) >>= λ tree. Ok (Some tree)
+
+abbrev pub tree_if_there : Files → List ℕ → Result (Option Tree) Fault
+tree_if_there files path = found_at files path >>= λ found. tree_or_none path found
 
 -- a call answers for a file what a reader answered: its value, its fault with the path, or want of memory
 abbrev pub IsInFile : {X : Type 0} → List ℕ → Result X Stop → Result X ReadStop → Type 0

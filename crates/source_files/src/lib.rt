@@ -8,5 +8,5 @@ mod stop;
 #[cfg(test)]
 mod tests;
 
-pub use file::{in_file, read_file, read_tree};
+pub use file::{in_file, read_file, read_tree, read_tree_if_there};
 pub use stop::ReadStop;

@@ -1,0 +1,4 @@
+mod Codes
+mod Empty
+mod Named
+mod Then

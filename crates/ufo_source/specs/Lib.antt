@@ -1,0 +1,10 @@
+pub mod Paths
+pub mod PropertyLists
+pub mod Metainfo
+pub mod Information
+pub mod Order
+pub mod Layers
+pub mod Contents
+pub mod Naming
+pub mod Glyphs
+pub mod Folders
