@@ -125,7 +125,7 @@ const GLYPHS: [(&str, &str); 10] = [
         "u/glyphs/contents.plist FileName ../a 0 0",
     ),
     (
-        "glyphs/contents.plist={ !a '../a !B 'B.glif }|glyphs/B.glif=?",
+        "glyphs/contents.plist={ !a '../a !B 'B.glif }|glyphs/B.glif=-1",
         "u/glyphs/B.glif CoordinateRange width 26 -1",
     ),
     (
@@ -220,18 +220,18 @@ fn list_of(alloc: Global, written: &str) -> Result<String, NoMemory> {
     Ok(text)
 }
 
-/// The text of a glyph, whose name is not that in the list of glyphs. A `?` is an advance out of its range.
+/// The text of a glyph, whose name is not that in the list of glyphs.
 fn glyph_of(alloc: Global, written: &str) -> Result<String, NoMemory> {
-    let mut text = String::from_str(alloc, "<glyph name='' format='2'>")?;
-    for (number, part) in written.split(' ').enumerate() {
-        let element = if number > 0 {
-            format!(in alloc; "<unicode hex='{part}'/>")?
-        } else if part == "?" {
-            format!(in alloc; "<advance width='-1'/>")?
-        } else {
-            format!(in alloc; "<advance width='{part}'/>")?
-        };
-        text.push_str(element.as_str())?;
+    let (width, codes) = match written.split_once(' ') {
+        Some((width, codes)) => (width, codes),
+        None => (written, ""),
+    };
+    let mut text = format!(in alloc; "<glyph name='' format='2'><advance width='{width}'/>")?;
+    for code in codes.split(' ') {
+        if !code.is_empty() {
+            let element = format!(in alloc; "<unicode hex='{code}'/>")?;
+            text.push_str(element.as_str())?;
+        }
     }
     text.push_str("</glyph>")?;
     Ok(text)
