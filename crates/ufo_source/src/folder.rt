@@ -23,8 +23,8 @@ use std::alloc::Global;
 pub struct Master {
     /// The font information.
     pub info: Info,
-    /// The names that `public.glyphOrder` of `lib.plist` lists, as they stand there: also such as no glyph has, and
-    /// such as stand twice. Empty where only wanted glyphs are read.
+    /// The names that `public.glyphOrder` of `lib.plist` lists, in its order, each once at its first position; also
+    /// such as no glyph has. Empty where only wanted glyphs are read.
     pub order: Seq<Name>,
     /// The names of the glyphs: all of the layer, in their byte order; or those that are wanted, in their order.
     pub names: Seq<Name>,
@@ -132,7 +132,7 @@ fn read_part<S: Sources>(
 /// 2. `fontinfo.plist`, a dictionary: the faults of font information. The file may be absent, which means an empty
 ///    dictionary;
 /// 3. without `wanted`, `lib.plist`, a dictionary: its `public.glyphOrder` counts where it is an array, and in it the
-///    texts. The file may be absent;
+///    texts, of equal ones the first. The file may be absent;
 /// 4. `layercontents.plist`, an array of arrays of two texts, a layer's name and its folder's: for the UFO folder
 ///    NoLayer where the layer isn't there, with its name, or `glyphs`, as item; FileName where its folder's name is
 ///    empty, `.`, `..` or holds a slash, with that name as item. A folder without this file, though UFO 3 asks for it,

@@ -1,27 +1,51 @@
-ghost use Rattle.std.specs.Prelude.{◌≡◌, filter_map, map, option_map, IfOk};
+ghost use Rattle.std.specs.Prelude.{◌≡◌, map, option_map, IfOk, OnOk};
 ghost use Rattle.basics.specs.Reading.{Gives};
-ghost use Rattle.plist.specs.Values.{as_array, as_text, plain_value};
+ghost use Rattle.plist.specs.Values.{as_array, plain_value};
 ghost use Rattle.source_files.specs.Stops.{Answers, Reads};
+ghost use Rattle.ufo_source.specs.Order as rules;
 ghost use Rattle.ufo_source.specs.Order.{order_at, order_by, order_of, texts_of};
 ghost use Rattle.ufo_source.specs.Paths.{IsIn};
 
 use crate::paths::in_folder;
 use crate::property_lists::{entries_of, read_value_or_empty};
 use basics::{Name, NoMemory, Seq, Stop};
+use indexmap::IndexSet;
 use outside::Sources;
 use plist::Value;
 use source_files::ReadStop;
 use std::alloc::Global;
 
-/// The texts among values, in order.
+/// Puts a text after the names, where it isn't among them; another value is passed over.
+fn put_text(alloc: Global, names: &mut IndexSet<Name>, value: &Value) -> Result<(), NoMemory>
+    ensures { OnOk result (names.new.keys ≡ rules.with_value names.old.keys (plain_value value.now)) }
+{
+    match value.as_text() {
+        Some(text) => {
+            names.insert(Name::from_str(alloc, text)?)?;
+            Ok(())
+        }
+        None => Ok(()),
+    }
+}
+
+/// The names that the texts among values are, each at its first position alone.
+fn names_among(alloc: Global, values: &[Value]) -> Result<IndexSet<Name>, NoMemory>
+    ensures { IfOk result (λ names. names.keys ≡ rules.names_among (map plain_value values.now)) }
+{
+    let mut names = IndexSet::new(alloc);
+    for value in values {
+        put_text(alloc, &mut names, value)?;
+    }
+    Ok(names)
+}
+
+/// The texts among values, in order, of equal ones the first alone.
 fn texts_among(alloc: Global, values: &[Value]) -> Result<Seq<Name>, NoMemory>
-    ensures { IfOk result (λ texts. texts ≡ filter_map as_text (map plain_value values.now)) }
+    ensures { IfOk result (λ texts. texts ≡ rules.names_among (map plain_value values.now)) }
 {
     let mut texts = Seq::new(alloc);
-    for value in values {
-        if let Some(text) = value.as_text() {
-            texts.push(Name::from_str(alloc, text)?)?;
-        }
+    for name in names_among(alloc, values)? {
+        texts.push(name)?;
     }
     Ok(texts)
 }

@@ -58,7 +58,7 @@ const FIRST_FILES: [(&str, &str); 12] = [
     ),
     (
         "lib.plist={ !public.glyphOrder [ 'a #1 'q [ ] 'a ] }",
-        "1000 a q a - B a - B 8 [] - a 7 [66, 65]",
+        "1000 a q - B a - B 8 [] - a 7 [66, 65]",
     ),
     (
         "fontinfo.plist={ !unitsPerEm #16 }",
