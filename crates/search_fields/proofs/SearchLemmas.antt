@@ -3,7 +3,7 @@ use Rattle.std.proofs.Common.{◌≡◌, ℕ, ◌+◌, ◌*◌, ◌^◌, ◌<◌
 use Rattle.std.proofs.Math.Nat.{pow-le-pow_right}
 use Rattle.std.proofs.lemmas.Bool.{cases_lt}
 use Rattle.std.proofs.lemmas.Nat.{pow-add}
-use Rattle.search_fields.specs.SearchFields.{AreSearchFields, OneAnswer}
+use Rattle.search_fields.specs.SearchFields.{OneAnswer}
 use Rattle.search_fields.specs.declared.SearchFields.{SearchFields}
 
 -- a power not above the count is not above the greatest one

@@ -1,17 +1,15 @@
 -- The table directory is read back as it was written.
-use Rattle.std.proofs.Common.{◌≡◌, ℕ, ◌+◌, ◌*◌, ◌%◌, ◌^◌, ◌<◌, ◌≤◌, List, [], ◌∷◌, ◌++◌, length, drop, Some, refl, sym, ap, ◌∙◌, arith, length-append, append_assoc}
+use Rattle.std.proofs.Common.{◌≡◌, ℕ, ◌+◌, ◌*◌, ◌^◌, ◌<◌, ◌≤◌, List, [], ◌∷◌, ◌++◌, length, drop, Some, refl, sym, ap, ◌∙◌, arith, length-append, append_assoc}
 use Rattle.std.proofs.lemmas.List.Sums.{sum_by-cons}
 use Rattle.std.specs.List.{AllByRecursion, flat_map}
-use Rattle.basics.specs.Optional.{◌>>=◌}
 use Rattle.be_bytes.specs.Fields.{fields_bytes}
 use Rattle.be_bytes.specs.Reading.{records, uint16, uint32}
-use Rattle.be_bytes.specs.WordSum.{word_sum}
 use Rattle.be_bytes.specs.declared.field.Field.TheVariants.{Uint16, Uint32}
 use Rattle.be_bytes.proofs.FieldLemmas.{uint16-field, uint32-field}
 use Rattle.be_bytes.proofs.RecordLemmas.{ComesBack, each_of, records_back}
 use Rattle.search_fields.specs.declared.SearchFields.{SearchFields}
 use Rattle.sfnt_write.specs.FontFile.{TableRecord, directory_in, table_record_in}
-use Rattle.sfnt_write.specs.Layout.{directory_bytes, filled, filling, header_fields, record_at, record_bytes, record_fields, records_from, tables_offset}
+use Rattle.sfnt_write.specs.Layout.{directory_bytes, filled, header_fields, record_bytes, record_fields, records_from, tables_offset}
 use Rattle.sfnt_write.specs.Steps.{FitsTag}
 use Rattle.sfnt_write.specs.Tables.{Slice, total_size}
 use Rattle.sfnt_write.proofs.WordSums.{filled_size}

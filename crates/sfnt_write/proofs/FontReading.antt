@@ -1,5 +1,5 @@
 -- The join of the pieces is a font file, and has each table.
-use Rattle.std.proofs.Common.{◌≡◌, ◌≢◌, ℕ, ◌+◌, ◌-◌, ◌%◌, ◌^◌, ◌<◌, ◌≤◌, false, true, List, [], ◌∷◌, ◌++◌, length, map, Option, Some, None, refl, sym, ap, subst, ◌∙◌, arith, inl, inr}
+use Rattle.std.proofs.Common.{◌≡◌, ◌≢◌, ℕ, ◌+◌, ◌-◌, ◌%◌, ◌^◌, ◌<◌, List, [], ◌∷◌, ◌++◌, length, map, Option, Some, None, refl, sym, ap, subst, ◌∙◌, arith, inl, inr}
 use Rattle.std.proofs.lemmas.Bool.{cond-false}
 use Rattle.std.proofs.lemmas.Bool.Decides.{eqb_tells}
 use Rattle.std.proofs.lemmas.List.{append-nil}
@@ -10,9 +10,9 @@ use Rattle.basics.specs.Optional.{◌>>=◌}
 use Rattle.be_bytes.specs.WordSum.{word_sum}
 use Rattle.be_bytes.proofs.RecordLemmas.{each_of}
 use Rattle.search_fields.specs.declared.SearchFields.{SearchFields}
-use Rattle.sfnt_write.specs.FontFile.{HEAD, IsFontFile, StandInOrder, TableRecord, directory_in, record_of, slice_in, table_in, with_zeros}
+use Rattle.sfnt_write.specs.FontFile.{HEAD, IsFontFile, StandInOrder, TableRecord, directory_in, record_of, slice_in, table_in}
 use Rattle.sfnt_write.specs.Holds.{HoldsTables}
-use Rattle.sfnt_write.specs.Layout.{ArePieces, adjusted, adjustment_of, directory_bytes, filled, piece_of, pieces_of, plain_file, records_from, tables_offset, with_adjustment}
+use Rattle.sfnt_write.specs.Layout.{ArePieces, adjusted, adjustment_of, directory_bytes, piece_of, plain_file, records_from, tables_offset, with_adjustment}
 use Rattle.sfnt_write.specs.Steps.{FitsTag, HasField, IsDirectory, tables_sum}
 use Rattle.sfnt_write.specs.Tables.{CanBeFont, Slice, bytes_of, slice_of}
 use Rattle.sfnt_write.specs.declared.table.Table.{Table}

@@ -1,8 +1,8 @@
 -- The tables in a file that is a directory and their pieces, one after another.
-use Rattle.std.proofs.Common.{◌≡◌, ◌≢◌, ℕ, ◌+◌, ◌%◌, ◌^◌, ◌≤◌, ◌<◌, Bool, true, false, List, [], ◌∷◌, ◌++◌, length, map, take, drop, replicate, Option, Some, None, refl, sym, ap, ◌∙◌, arith, length-append, append_assoc, inl, inr}
+use Rattle.std.proofs.Common.{◌≡◌, ℕ, ◌+◌, ◌%◌, ◌^◌, ◌≤◌, ◌<◌, Bool, true, false, List, [], ◌∷◌, ◌++◌, length, map, take, drop, replicate, Option, Some, refl, sym, ap, ◌∙◌, arith, length-append, append_assoc, inl, inr}
 use Rattle.std.proofs.lemmas.Bool.{cond-false, cond-true, eqb-true}
 use Rattle.std.proofs.lemmas.Bool.Decides.{eqb_tells}
-use Rattle.std.proofs.lemmas.List.{drop-drop, drop_at}
+use Rattle.std.proofs.lemmas.List.{drop_at}
 use Rattle.std.specs.Prelude.{if◌then◌else◌, nat_eq, option_map}
 use Rattle.std.specs.Int.{w32, to_be_bytes}
 use Rattle.std.specs.List.{AllByRecursion, concat}
@@ -11,7 +11,7 @@ use Rattle.be_bytes.specs.Reading.{prefix_of, uint32}
 use Rattle.be_bytes.proofs.FieldLemmas.{uint32-field}
 use Rattle.be_bytes.proofs.RecordLemmas.{prefix_at}
 use Rattle.sfnt_write.specs.FontFile.{HEAD, StandInOrder, TableRecord, record_of, slice_in, with_zeros}
-use Rattle.sfnt_write.specs.Layout.{adjusted, filled, filling, piece_of, record_at, records_from, with_adjustment}
+use Rattle.sfnt_write.specs.Layout.{adjusted, filled, filling, piece_of, record_at, records_from}
 use Rattle.sfnt_write.specs.Tables.{IsPlainHead, Rise, Slice, bytes_of}
 use Rattle.sfnt_write.proofs.HeadBytes.{IsNotHead, IsPlain, adjusted_head, adjusted_other, adjusted_size, checksum_same, first_size, four_at, none_later, parts_of}
 use Rattle.sfnt_write.proofs.WordSums.{filled_size, filled_whole}

@@ -6,7 +6,7 @@ use Rattle.std.proofs.lemmas.List.Sums.{sum_by-cons}
 use Rattle.std.specs.Prelude.{All}
 use Rattle.std.specs.List.{flat_map}
 use Rattle.be_bytes.specs.WordSum.{word_sum}
-use Rattle.sfnt_write.specs.Layout.{filled, filling, record_at, record_bytes, records_from}
+use Rattle.sfnt_write.specs.Layout.{filled, record_at, record_bytes, records_from}
 use Rattle.sfnt_write.specs.Steps.{FitsTag, tables_sum}
 use Rattle.sfnt_write.specs.Tables.{Slice, slice_of, total_size}
 use Rattle.sfnt_write.specs.declared.table.Table.{Table}

@@ -1,9 +1,9 @@
 -- What a font file has of the tables that it was made of, and what it means that its tables mean something.
-use Rattle.std.specs.Prelude.{◌≡◌, ◌≢◌, ℕ, ◌+◌, ◌^◌, ◌<◌, ◌≤◌, List, [], ◌∷◌, length, take, drop, Option, Some, None, option_map}
+use Rattle.std.specs.Prelude.{◌≡◌, ◌≢◌, ℕ, ◌+◌, ◌^◌, ◌<◌, ◌≤◌, List, length, drop, Some, option_map}
 use Rattle.be_bytes.specs.Reading.{prefix_of, uint32}
 use Rattle.sfnt_write.specs.FontFile.{HEAD, IsFontFile, table_in}
 use Rattle.sfnt_write.specs.Layout.{with_adjustment}
-use Rattle.sfnt_write.specs.Tables.{CanBeFont, Slice, bytes_of}
+use Rattle.sfnt_write.specs.Tables.{Slice, bytes_of}
 
 -- It is a font file, the table of each tag is the one that was given, and there is none where none was given; of head
 -- the adjustment is another.

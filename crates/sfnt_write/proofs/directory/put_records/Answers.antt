@@ -1,4 +1,4 @@
-use Rattle.std.proofs.Common.{◌≡◌, ◌+◌, ◌<◌, ◌^◌, ◌∷◌, List, ℕ, ◌%◌, ap, drop, length, map, subst, arith, ◌∙◌}
+use Rattle.std.proofs.Common.{◌+◌, ◌^◌, List, ℕ, ◌%◌, ap, drop, map, subst, arith, ◌∙◌}
 use Rattle.std.proofs.lemmas.List.{take_all}
 use Rattle.std.specs.Prelude.{All}
 use Rattle.be_bytes.specs.WordSum.{word_sum}

@@ -1,4 +1,4 @@
-use Rattle.std.proofs.Common.{◌≡◌, ℕ, ◌≤◌, List, [], ◌∷◌, length, map, codes, refl, sym, subst, ◌∙◌, arith}
+use Rattle.std.proofs.Common.{ℕ, List, [], ◌∷◌, map, codes, refl, sym, subst, ◌∙◌, arith}
 use Rattle.sfnt_write.specs.Tables.{CanBeFont, IsPlainHead, Slice, slice_of, tag_number}
 use Rattle.sfnt_write.specs.declared.table.Table.{Table}
 use Rattle.sfnt_write.proofs.tests.alone.Goals as goal
