@@ -104,5 +104,5 @@ has_rows axes regions rows each =
       regions_are = refl;
       row_is = each_row;
       value_is = λ g row at is.
-        read_value store g at (zip regions row) (each_row g ∙ of_row regions rows g row is) ∙ ap Some (sum_is regions row at);
+          read_value store g at (zip regions row) (each_row g ∙ of_row regions rows g row is) ∙ ap Some (sum_is regions row at);
     }

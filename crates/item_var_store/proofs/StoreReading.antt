@@ -50,9 +50,9 @@ unfolding triple_fields
 triple_back triple is = record {
   size_is = refl;
   back = read_triple (triple_bytes triple) triple.start triple.peak triple.end
-    (int16-field triple.start (fields_bytes (Int16 triple.peak ∷ Int16 triple.end ∷ [])) (word_of triple.start is.0))
-    (int16-field triple.peak (fields_bytes (Int16 triple.end ∷ [])) (word_of triple.peak is.1))
-    (int16-field triple.end [] (word_of triple.end is.2));
+      (int16-field triple.start (fields_bytes (Int16 triple.peak ∷ Int16 triple.end ∷ [])) (word_of triple.start is.0))
+      (int16-field triple.peak (fields_bytes (Int16 triple.end ∷ [])) (word_of triple.peak is.1))
+      (int16-field triple.end [] (word_of triple.end is.2));
 }
 
 region_back : (axes : ℕ) (region : List Triple) → length region ≡ axes → AllByRecursion IsNormalisedTriple region → ComesBack region_bytes (records triple_in 6 axes) (6 * axes) region
@@ -103,7 +103,9 @@ row_back columns row own =
     record { size_is = array.size_is; back = read_row columns (row_bytes row) row array.back }
 
 read_rows : (columns count : ℕ) (bytes : List ℕ) (rows : List (List ℤ)) → nat_le columns columns ≡ true → columns - columns ≡ 0 → records (row_in false columns 0) (2 * columns) count bytes ≡ Some rows → rows_in false columns columns count bytes ≡ Some rows
-read_rows columns count bytes rows a b c = rw (a, b) c
+read_rows columns count bytes rows a b c =
+    let size : 2 * columns + 0 ≡ 2 * columns = omega arith in
+    rw (a, b) (ap (λ (n : ℕ). records (row_in false columns 0) n count bytes) size ∙ c)
 
 rows_back : (columns : ℕ) (rows : List (List ℤ)) → AllByRecursion (IsRowOf columns) rows → rows_in false columns columns (length rows) (flat_map row_bytes rows) ≡ Some rows
 rows_back columns rows each =

@@ -102,6 +102,7 @@ fn rows_of(alloc: Global, case: &Case) -> Result<Seq<Seq<i32>>, NoMemory> {
 }
 
 /// What is left of the bytes of a table.
+#[derive(Drop)]
 struct Rest<'a>(&'a [u8]);
 
 impl<'a> Rest<'a> {
