@@ -1,15 +1,12 @@
 -- The table is read back as it was written.
-use Rattle.std.proofs.Common.{◌≡◌, ℕ, ℤ, List, [], ◌∷◌, ◌++◌, drop, Option, Some, None, refl, ap, subst, sym, ◌∙◌, arith}
-use Rattle.std.specs.Prelude.{slice_get}
-use Rattle.std.specs.List.{zip}
+use Rattle.std.proofs.Common.{◌≡◌, ℕ, ℤ, List, ◌++◌, drop, Some, None, refl}
 use Rattle.be_bytes.specs.Fields.{fields_bytes}
 use Rattle.be_bytes.specs.Reading.{uint16, uint32}
 use Rattle.variation_rules.specs.declared.region.Triple.{Triple}
-use Rattle.item_var_store.specs.Layout.{store_bytes}
 use Rattle.item_var_store.specs.Rows.{MeansRows}
 use Rattle.item_var_store.specs.Store.{Store, store_in}
-use Rattle.hvar.specs.Advances.{Advances, MeansAdvances, advances_in}
-use Rattle.hvar.specs.Layout.{header_fields, table_bytes}
+use Rattle.hvar.specs.Advances.{MeansAdvances, advances_in}
+use Rattle.hvar.specs.Layout.{header_fields}
 
 read_table : (bytes : List ℕ) (offset : ℕ) (store : Store) → uint16 bytes ≡ Some 1 → uint16 (drop 2 bytes) ≡ Some 0 → uint32 (drop 4 bytes) ≡ Some offset → uint32 (drop 8 bytes) ≡ Some 0 → uint32 (drop 12 bytes) ≡ Some 0 → uint32 (drop 16 bytes) ≡ Some 0
     → store_in (drop offset bytes) ≡ Some store → advances_in bytes ≡ Some (record { store = store; map = None })

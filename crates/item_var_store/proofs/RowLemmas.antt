@@ -1,9 +1,8 @@
 -- Rows with their regions: the indexes of all regions pick them in their order, and a row's value is a sum over regions.
-use Rattle.std.proofs.Common.{◌≡◌, ℕ, ℤ, zero, suc, ◌+◌, ◌≤◌, ◌<◌, ◌^◌, ◌+ℤ◌, ◌*ℤ◌, List, [], ◌∷◌, ◌++◌, length, length-append, Option, Some, refl, sym, ap, subst, ◌∙◌, append_assoc, arith}
+use Rattle.std.proofs.Common.{◌≡◌, ℕ, ℤ, zero, suc, ◌+◌, ◌≤◌, ◌<◌, ◌^◌, ◌+ℤ◌, ◌*ℤ◌, List, [], ◌∷◌, ◌++◌, length, length-append, Option, Some, refl, sym, ap, ◌∙◌, append_assoc, arith}
 use Rattle.std.proofs.lemmas.List.{append-nil}
 use Rattle.std.proofs.lemmas.Grind.{flat_map-append}
-use Rattle.std.proofs.lemmas.List.Elements.{recursion_from_All}
-use Rattle.std.specs.Prelude.{All, slice_get}
+use Rattle.std.specs.Prelude.{slice_get}
 use Rattle.std.specs.List.{AllByRecursion, flat_map, zip}
 use Rattle.basics.specs.Optional.{◌>>=◌}
 use Rattle.variation_rules.specs.PackedPoints.{count_from}
@@ -11,7 +10,7 @@ use Rattle.variation_rules.specs.Scalar.{scalar_of}
 use Rattle.variation_rules.specs.declared.region.Triple.{Triple}
 use Rattle.item_var_store.specs.DeltaSets.{delta_set_in, value_in, value_of, weighted_sum, with_regions}
 use Rattle.item_var_store.specs.Rows.{HasRows}
-use Rattle.item_var_store.specs.Store.{ItemData, Store}
+use Rattle.item_var_store.specs.Store.{Store}
 
 -- ---- numbers counted up
 

@@ -1,5 +1,5 @@
 -- A store is read back as it was written.
-use Rattle.std.proofs.Common.{◌≡◌, ℕ, ℤ, zero, suc, ◌+◌, ◌-◌, ◌*◌, ◌%◌, ◌^◌, ◌<◌, ◌≤◌, Bool, true, false, List, [], ◌∷◌, ◌++◌, length, drop, Option, Some, FitsSigned, refl, sym, ap, ◌∙◌, arith}
+use Rattle.std.proofs.Common.{◌≡◌, ℕ, ℤ, ◌+◌, ◌-◌, ◌*◌, ◌%◌, ◌^◌, ◌<◌, ◌≤◌, Bool, true, false, List, [], ◌∷◌, ◌++◌, length, drop, Option, Some, FitsSigned, refl, sym, ap, ◌∙◌, arith}
 use Rattle.std.proofs.lemmas.Bool.{le-leb, lt-leb, lt-ltb}
 use Rattle.std.proofs.lemmas.Int.{ints}
 use Rattle.std.proofs.lemmas.List.{append-nil, drop-drop, drop_at, length-map}
@@ -20,7 +20,7 @@ use Rattle.variation_rules.specs.PackedPoints.{count_from}
 use Rattle.variation_rules.specs.declared.region.Triple.{Triple}
 use Rattle.item_var_store.specs.Layout.{delta_bytes, index_bytes, item_data_bytes, region_bytes, region_list_bytes, row_bytes, store_bytes, store_header, triple_bytes, triple_fields}
 use Rattle.item_var_store.specs.Rows.{AreRows, MeansRows}
-use Rattle.item_var_store.specs.Store.{ItemData, RegionList, Store, item_data_in, region_list_in, row_in, rows_in, store_in, triple_in, wide_in}
+use Rattle.item_var_store.specs.Store.{ItemData, RegionList, item_data_in, region_list_in, row_in, rows_in, store_in, triple_in, wide_in}
 use Rattle.item_var_store.proofs.RowLemmas.{count_length, counted_words, has_rows, store_of}
 
 -- ---- arrays

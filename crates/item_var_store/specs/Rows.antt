@@ -1,5 +1,5 @@
 -- Rows that can be written, and what it means that bytes have them.
-use Rattle.std.specs.Prelude.{◌≡◌, ℕ, ℤ, ◌≤◌, List, length, All, Option, Some, FitsSigned, slice_get}
+use Rattle.std.specs.Prelude.{◌≡◌, ℕ, ℤ, ◌≤◌, List, length, All, Some, FitsSigned, slice_get}
 use Rattle.std.specs.Int.{w16}
 use Rattle.std.specs.List.{zip}
 use Rattle.basics.specs.Optional.{◌>>=◌}
