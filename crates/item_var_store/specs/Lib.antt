@@ -1,0 +1,4 @@
+pub mod DeltaSets
+pub mod Layout
+pub mod Rows
+pub mod Store
