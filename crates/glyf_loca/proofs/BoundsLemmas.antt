@@ -1,0 +1,107 @@
+-- The bounds of points: their law, their steps in a loop, and that they have 16 bits.
+use Rattle.std.proofs.Common.{◌≡◌, ℕ, ℤ, pos, negsuc, ◌+◌, ◌<◌, Bool, true, List, [], ◌∷◌, ◌++◌, length, take, map, fold, get_or, FitsSigned, ◌&&◌, refl, sym, ap, subst, ◌∙◌, inl, inr, arith}
+use Rattle.std.proofs.lemmas.Bool.Decides.{Decides-int_eq}
+use Rattle.std.proofs.lemmas.Int.{fold-int_max_bounds, fold-int_max_reached, fold-int_min_bounds, fold-int_min_reached, ints}
+use Rattle.std.proofs.lemmas.List.{map_more}
+use Rattle.std.proofs.lemmas.List.Elements.{All-cons, All-contains, All-map, All-nil, All-weaker, Contains-append_right, Contains-get_or}
+use Rattle.std.proofs.lemmas.List.Sums.{fold-append}
+use Rattle.std.specs.Prelude.{◌≤ℤ◌, All, Contains}
+use Rattle.std.specs.Int.{int_max, int_min, w16}
+use Rattle.std.specs.Ordering.{int_eq}
+use Rattle.glif.specs.Limits.{IsPointWithin}
+use Rattle.glif.specs.declared.shape.Point.{Point}
+use Rattle.glyf_loca.specs.declared.extent.Bounds.{Bounds}
+use Rattle.glyf_loca.specs.Bounds.{AreBounds, BoundsLaw, IsGreatest, IsLeast, bounds_of, greatest, least, same_bounds, xs_of, ys_of}
+
+-- ---- least and greatest
+
+pub least_is : (z : ℤ) (zs : List ℤ) → IsLeast (least (z ∷ zs)) (z ∷ zs)
+least_is z zs =
+    let r : ℤ = fold int_min z zs in
+    let bounds = fold-int_min_bounds z zs r refl in
+    record {
+      there = elim (fold-int_min_reached z zs r refl) [ inl first ↦ subst (Contains (z ∷ zs)) (sym first) (Contains-get_or (z ∷ zs) 0 z (omega arith)) | inr later ↦ Contains-append_right (z ∷ []) zs r later ];
+      below = All-cons (λ other. r ≤ℤ other) z zs bounds.0 bounds.1;
+    }
+
+pub greatest_is : (z : ℤ) (zs : List ℤ) → IsGreatest (greatest (z ∷ zs)) (z ∷ zs)
+greatest_is z zs =
+    let r : ℤ = fold int_max z zs in
+    let bounds = fold-int_max_bounds z zs r refl in
+    record {
+      there = elim (fold-int_max_reached z zs r refl) [ inl first ↦ subst (Contains (z ∷ zs)) (sym first) (Contains-get_or (z ∷ zs) 0 z (omega arith)) | inr later ↦ Contains-append_right (z ∷ []) zs r later ];
+      above = All-cons (λ other. other ≤ℤ r) z zs bounds.0 bounds.1;
+    }
+
+pub bounds_are : BoundsLaw
+unfolding bounds_of
+bounds_are [] some = absurd (some refl)
+bounds_are (point ∷ points) some = record {
+  x_min = least_is point.x (xs_of points);
+  y_min = least_is point.y (ys_of points);
+  x_max = greatest_is point.x (xs_of points);
+  y_max = greatest_is point.y (ys_of points);
+}
+
+-- ---- a loop's step
+
+pub fold_step : (f : ℤ → ℤ → ℤ) (pick : Point → ℤ) (a : ℤ) (points : List Point) (i : ℕ) (point : Point) → i < length points → point ≡ get_or points i point → fold f a (map pick (take (i + 1) points)) ≡ f (fold f a (map pick (take i points))) (pick point)
+fold_step f pick a points i point within is =
+    ap (fold f a) (map_more pick points i point within)
+    ∙ fold-append f a (map pick (take i points)) (pick (get_or points i point) ∷ [])
+    ∙ ap (λ (p : Point). f (fold f a (map pick (take i points))) (pick p)) (sym is)
+
+-- ---- ranges
+
+pub record IsCoordinate (z : ℤ) : Type 0 where
+  pub low : negsuc 16383 ≤ℤ z
+  pub high : z ≤ℤ pos 16383
+
+pub x_within : (point : Point) → IsPointWithin point → IsCoordinate point.x
+x_within point own = record { low = own.least_x; high = own.greatest_x }
+
+pub y_within : (point : Point) → IsPointWithin point → IsCoordinate point.y
+y_within point own = record { low = own.least_y; high = own.greatest_y }
+
+pub xs_within : (points : List Point) → All IsPointWithin points → All IsCoordinate (xs_of points)
+xs_within points each = All-map IsCoordinate (λ (point : Point). point.x) points (All-weaker IsPointWithin (λ point. IsCoordinate point.x) x_within points each)
+
+pub ys_within : (points : List Point) → All IsPointWithin points → All IsCoordinate (ys_of points)
+ys_within points each = All-map IsCoordinate (λ (point : Point). point.y) points (All-weaker IsPointWithin (λ point. IsCoordinate point.y) y_within points each)
+
+coordinate_fits : (z : ℤ) → IsCoordinate z → FitsSigned w16 z
+coordinate_fits z own = omega (arith, ints, own.low, own.high)
+
+least_fits : (zs : List ℤ) → All IsCoordinate zs → FitsSigned w16 (least zs)
+least_fits [] each = omega (arith, ints)
+least_fits (z ∷ zs) each = coordinate_fits (least (z ∷ zs)) (All-contains IsCoordinate (z ∷ zs) (least (z ∷ zs)) each (least_is z zs).there)
+
+greatest_fits : (zs : List ℤ) → All IsCoordinate zs → FitsSigned w16 (greatest zs)
+greatest_fits [] each = omega (arith, ints)
+greatest_fits (z ∷ zs) each = coordinate_fits (greatest (z ∷ zs)) (All-contains IsCoordinate (z ∷ zs) (greatest (z ∷ zs)) each (greatest_is z zs).there)
+
+pub record FitsBounds (bounds : Bounds) : Type 0 where
+  pub x_min : FitsSigned w16 bounds.x_min
+  pub y_min : FitsSigned w16 bounds.y_min
+  pub x_max : FitsSigned w16 bounds.x_max
+  pub y_max : FitsSigned w16 bounds.y_max
+
+pub bounds_fit : (points : List Point) → All IsPointWithin points → FitsBounds (bounds_of points)
+unfolding bounds_of
+bounds_fit points each = record {
+  x_min = least_fits (xs_of points) (xs_within points each);
+  y_min = least_fits (ys_of points) (ys_within points each);
+  x_max = greatest_fits (xs_of points) (xs_within points each);
+  y_max = greatest_fits (ys_of points) (ys_within points each);
+}
+
+-- ---- a test of equality
+
+itself : (z : ℤ) → int_eq z z ≡ true
+itself z = (Decides-int_eq z z).1 refl
+
+all_true : (a b c d : Bool) → a ≡ true → b ≡ true → c ≡ true → d ≡ true → (a && (b && (c && d))) ≡ true
+all_true a b c d p q r s = rw (p, q, r, s) refl
+
+pub same_as_itself : (bounds : Bounds) → same_bounds bounds bounds ≡ true
+same_as_itself bounds = all_true _ _ _ _ (itself bounds.x_min) (itself bounds.y_min) (itself bounds.x_max) (itself bounds.y_max)
