@@ -1,10 +1,9 @@
 -- The bounds of points: their law, their steps in a loop, and that they have 16 bits.
-use Rattle.std.proofs.Common.{◌≡◌, ℕ, ℤ, pos, negsuc, ◌+◌, ◌<◌, Bool, true, List, [], ◌∷◌, ◌++◌, length, take, map, fold, get_or, FitsSigned, ◌&&◌, refl, sym, ap, subst, ◌∙◌, inl, inr, arith}
+use Rattle.std.proofs.Common.{◌≡◌, ℕ, ℤ, pos, negsuc, ◌≤◌, Bool, true, List, [], ◌∷◌, length, take, fold, FitsSigned, ◌&&◌, refl, sym, ap, subst, ◌∙◌, inl, inr, arith}
 use Rattle.std.proofs.lemmas.Bool.Decides.{Decides-int_eq}
 use Rattle.std.proofs.lemmas.Int.{fold-int_max_bounds, fold-int_max_reached, fold-int_min_bounds, fold-int_min_reached, ints}
-use Rattle.std.proofs.lemmas.List.{map_more}
+use Rattle.std.proofs.lemmas.List.{take_all}
 use Rattle.std.proofs.lemmas.List.Elements.{All-cons, All-contains, All-map, All-nil, All-weaker, Contains-append_right, Contains-get_or}
-use Rattle.std.proofs.lemmas.List.Sums.{fold-append}
 use Rattle.std.specs.Prelude.{◌≤ℤ◌, All, Contains}
 use Rattle.std.specs.Int.{int_max, int_min, w16}
 use Rattle.std.specs.Ordering.{int_eq}
@@ -43,13 +42,23 @@ bounds_are (point ∷ points) some = record {
   y_max = greatest_is point.y (ys_of points);
 }
 
--- ---- a loop's step
+-- ---- one number after another
 
-pub fold_step : (f : ℤ → ℤ → ℤ) (pick : Point → ℤ) (a : ℤ) (points : List Point) (i : ℕ) (point : Point) → i < length points → point ≡ get_or points i point → fold f a (map pick (take (i + 1) points)) ≡ f (fold f a (map pick (take i points))) (pick point)
-fold_step f pick a points i point within is =
-    ap (fold f a) (map_more pick points i point within)
-    ∙ fold-append f a (map pick (take i points)) (pick (get_or points i point) ∷ [])
-    ∙ ap (λ (p : Point). f (fold f a (map pick (take i points))) (pick p)) (sym is)
+same_four : (a b c d p q r s : ℤ) → a ≡ p → b ≡ q → c ≡ r → d ≡ s → let first : Bounds = record { x_min = a; y_min = b; x_max = c; y_max = d } in let second : Bounds = record { x_min = p; y_min = q; x_max = r; y_max = s } in first ≡ second
+same_four a b c d p q r s x_min y_min x_max y_max = cc
+
+-- the fold over the rest of the points from the bounds of the first one
+pub bounds_by_steps : (point : Point) (rest : List Point) (i : ℕ) (first bounds : Bounds) → length rest ≤ i → first ≡ record { x_min = point.x; y_min = point.y; x_max = point.x; y_max = point.y }
+    → bounds.x_min ≡ fold int_min first.x_min (xs_of (take i rest)) → bounds.y_min ≡ fold int_min first.y_min (ys_of (take i rest)) → bounds.x_max ≡ fold int_max first.x_max (xs_of (take i rest)) → bounds.y_max ≡ fold int_max first.y_max (ys_of (take i rest))
+    → bounds ≡ bounds_of (point ∷ rest)
+unfolding bounds_of
+bounds_by_steps point rest i first bounds all first_is x_min y_min x_max y_max =
+    let whole : take i rest ≡ rest = take_all i rest all in
+    same_four bounds.x_min bounds.y_min bounds.x_max bounds.y_max (least (xs_of (point ∷ rest))) (least (ys_of (point ∷ rest))) (greatest (xs_of (point ∷ rest))) (greatest (ys_of (point ∷ rest)))
+    (x_min ∙ ap (λ (b : Bounds). fold int_min b.x_min (xs_of (take i rest))) first_is ∙ ap (λ (ps : List Point). fold int_min point.x (xs_of ps)) whole)
+    (y_min ∙ ap (λ (b : Bounds). fold int_min b.y_min (ys_of (take i rest))) first_is ∙ ap (λ (ps : List Point). fold int_min point.y (ys_of ps)) whole)
+    (x_max ∙ ap (λ (b : Bounds). fold int_max b.x_max (xs_of (take i rest))) first_is ∙ ap (λ (ps : List Point). fold int_max point.x (xs_of ps)) whole)
+    (y_max ∙ ap (λ (b : Bounds). fold int_max b.y_max (ys_of (take i rest))) first_is ∙ ap (λ (ps : List Point). fold int_max point.y (ys_of ps)) whole)
 
 -- ---- ranges
 

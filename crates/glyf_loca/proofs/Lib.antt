@@ -3,4 +3,4 @@ pub mod PointLemmas
 pub mod RecordReading
 pub mod SizeLemmas
 pub mod TableReading
-pub mod TableSteps
+pub mod WriterSteps

@@ -4,7 +4,8 @@ use Rattle.std.proofs.lemmas.Bool.{le-leb}
 use Rattle.std.proofs.lemmas.Int.{ints}
 use Rattle.std.proofs.lemmas.List.{drop_at, take_at}
 use Rattle.std.proofs.lemmas.List.Elements.{All-append, All-head, All-nil, All-tail}
-use Rattle.std.specs.Prelude.{◌-ℤ◌, All, nat_le}
+use Rattle.std.proofs.lemmas.List.Sums.{sum_by-cons}
+use Rattle.std.specs.Prelude.{◌-ℤ◌, All, if◌then◌else◌, nat_le}
 use Rattle.std.specs.Int.{w16}
 use Rattle.std.specs.List.{flat_map}
 use Rattle.be_bytes.specs.Fields.{field_bytes}
@@ -28,7 +29,7 @@ points_within (own ∷ contours) each =
 
 pub points_count : (contours : List (List Point)) → length (points_in contours) ≡ sum_by length contours
 points_count [] = refl
-points_count (own ∷ contours) = omega (arith, length-append own (points_in contours), points_count contours)
+points_count (own ∷ contours) = omega (arith, length-append own (points_in contours), points_count contours, sum_by-cons (length {A = Point}) own contours)
 
 pub lasts_count : (count : ℕ) (contours : List (List Point)) → length (lasts_from count contours) ≡ length contours
 lasts_count count [] = refl
@@ -38,7 +39,7 @@ pub few_contours : (contours : List (List Point)) → All IsContourWithin contou
 few_contours [] each = omega arith
 few_contours (own ∷ contours) each =
     let here = All-head IsContourWithin own contours each in
-    omega (arith, here.least, few_contours contours (All-tail IsContourWithin own contours each))
+    omega (arith, here.least, few_contours contours (All-tail IsContourWithin own contours each), sum_by-cons (length {A = Point}) own contours)
 
 -- ---- flags
 

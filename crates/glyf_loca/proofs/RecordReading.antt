@@ -3,7 +3,7 @@ use Rattle.std.proofs.Common.{◌≡◌, ℕ, ℤ, suc, pos, ◌+◌, ◌*◌, �
 use Rattle.std.proofs.lemmas.Bool.{le-leb}
 use Rattle.std.proofs.lemmas.Int.{ints}
 use Rattle.std.proofs.lemmas.List.{drop-drop, drop_at}
-use Rattle.std.proofs.lemmas.List.Elements.{All-head, All-tail}
+use Rattle.std.proofs.lemmas.List.Sums.{sum_by-cons}
 use Rattle.std.specs.Prelude.{All, if◌then◌else◌, nat_le, sum_by}
 use Rattle.std.specs.Int.{w16}
 use Rattle.std.specs.List.{AllByRecursion, flat_map}
@@ -30,7 +30,8 @@ last_back last fits = record { size_is = refl; back = uint16-field last [] fits 
 pub each_last_back : (count : ℕ) (contours : List (List Point)) → count + sum_by length contours ≤ 4000 → AllByRecursion (ComesBack last_bytes uint16 2) (lasts_from count contours)
 each_last_back count [] few = tt
 each_last_back count (own ∷ contours) few =
-    (last_back (count + length own - 1) (omega (arith, few)), each_last_back (count + length own) contours (omega (arith, few)))
+    let sum = sum_by-cons (length {A = Point}) own contours in
+    (last_back (count + length own - 1) (omega (arith, few, sum)), each_last_back (count + length own) contours (omega (arith, few, sum)))
 
 -- ---- the header
 
@@ -55,7 +56,7 @@ read_record bytes count size bounds lasts instructions contours a b c d e f g = 
 no_prefix : (bytes : List ℕ) → prefix_of 0 bytes ≡ Some []
 no_prefix bytes = let test : nat_le 0 (length bytes) ≡ true = le-leb 0 (length bytes) (omega arith) in rw test refl
 
-count_fits : (n : ℕ) → n ≤ 4000 → FitsSigned w16 (pos n)
+pub count_fits : (n : ℕ) → n ≤ 4000 → FitsSigned w16 (pos n)
 count_fits n few = omega (arith, ints)
 
 record_back : (contours : List (List Point)) (rest : List ℕ) → AreContoursWithin contours → record_in (record_bytes contours ++ rest) ≡ Some contours

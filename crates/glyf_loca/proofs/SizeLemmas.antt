@@ -1,5 +1,6 @@
 -- How many bytes a glyph has.
-use Rattle.std.proofs.Common.{◌≡◌, ℕ, ℤ, pos, ◌+◌, ◌-◌, ◌*◌, ◌%◌, ◌<◌, ◌≤◌, List, [], ◌∷◌, ◌++◌, length, map, replicate, sum_by, refl, ap, ◌∙◌, arith, length-append, length-map, length-replicate}
+use Rattle.std.proofs.Common.{◌≡◌, ℕ, ℤ, pos, ◌+◌, ◌-◌, ◌*◌, ◌%◌, ◌<◌, ◌≤◌, List, [], ◌∷◌, ◌++◌, length, map, replicate, sum_by, refl, ap, ◌∙◌, arith, length-append}
+use Rattle.std.proofs.lemmas.List.{length-map, length-replicate}
 use Rattle.std.proofs.lemmas.List.Elements.{All-head, All-tail}
 use Rattle.std.specs.Prelude.{All}
 use Rattle.std.specs.List.{flat_map}
@@ -40,7 +41,7 @@ record_size contours within =
 filled_size : (bytes : List ℕ) → length (filled bytes) ≡ length bytes + (4 - length bytes % 4) % 4
 filled_size bytes =
     let zeros : ℕ = (4 - length bytes % 4) % 4 in
-    omega (arith, length-append bytes (replicate zeros 0), length-replicate zeros 0)
+    omega (arith, length-append bytes (replicate zeros 0), length-replicate {A = ℕ} zeros 0)
 
 -- a glyph fills whole words
 pub glyph_aligned : (contours : List (List Point)) → length (glyph_bytes contours) % 4 ≡ 0

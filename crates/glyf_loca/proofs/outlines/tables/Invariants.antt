@@ -1,5 +1,5 @@
 use Rattle.std.proofs.Common.{take}
-use Rattle.glyf_loca.proofs.TableSteps.{Stand}
+use Rattle.glyf_loca.proofs.WriterSteps.{Stand}
 use Rattle.glyf_loca.proofs.outlines.tables.Given as goal
 
 -- the glyphs so far are written
