@@ -3,14 +3,14 @@ use Rattle.std.proofs.Common.{◌≡◌, ℕ, ℤ, pos, negsuc, ◌≤◌, Bool,
 use Rattle.std.proofs.lemmas.Bool.Decides.{Decides-int_eq}
 use Rattle.std.proofs.lemmas.Int.{fold-int_max_bounds, fold-int_max_reached, fold-int_min_bounds, fold-int_min_reached, ints}
 use Rattle.std.proofs.lemmas.List.{take_all}
-use Rattle.std.proofs.lemmas.List.Elements.{All-cons, All-contains, All-map, All-nil, All-weaker, Contains-append_right, Contains-get_or}
+use Rattle.std.proofs.lemmas.List.Elements.{All-cons, All-contains, All-map, All-weaker, Contains-append_right, Contains-get_or}
 use Rattle.std.specs.Prelude.{◌≤ℤ◌, All, Contains}
 use Rattle.std.specs.Int.{int_max, int_min, w16}
 use Rattle.std.specs.Ordering.{int_eq}
 use Rattle.glif.specs.Limits.{IsPointWithin}
 use Rattle.glif.specs.declared.shape.Point.{Point}
 use Rattle.glyf_loca.specs.declared.extent.Bounds.{Bounds}
-use Rattle.glyf_loca.specs.Bounds.{AreBounds, BoundsLaw, IsGreatest, IsLeast, bounds_of, greatest, least, same_bounds, xs_of, ys_of}
+use Rattle.glyf_loca.specs.Bounds.{BoundsLaw, IsGreatest, IsLeast, bounds_of, greatest, least, same_bounds, xs_of, ys_of}
 
 -- ---- least and greatest
 

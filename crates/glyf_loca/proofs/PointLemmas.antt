@@ -1,5 +1,5 @@
 -- The flags and the coordinates of points are read back as they were written, and their contours with them.
-use Rattle.std.proofs.Common.{◌≡◌, ℕ, ℤ, suc, pos, negsuc, ◌+◌, ◌-◌, ◌+ℤ◌, ◌<◌, ◌≤◌, Bool, true, false, List, [], ◌∷◌, ◌++◌, length, take, drop, map, sum_by, Some, None, FitsSigned, refl, sym, ap, ◌∙◌, arith, length-append, append_assoc}
+use Rattle.std.proofs.Common.{◌≡◌, ℕ, ℤ, suc, pos, ◌+◌, ◌-◌, ◌+ℤ◌, ◌≤◌, Bool, true, false, List, [], ◌∷◌, ◌++◌, length, take, drop, map, sum_by, Some, None, FitsSigned, refl, ap, ◌∙◌, arith, length-append, append_assoc}
 use Rattle.std.proofs.lemmas.Bool.{le-leb}
 use Rattle.std.proofs.lemmas.Int.{ints}
 use Rattle.std.proofs.lemmas.List.{drop_at, take_at}
@@ -8,15 +8,12 @@ use Rattle.std.proofs.lemmas.List.Sums.{sum_by-cons}
 use Rattle.std.specs.Prelude.{◌-ℤ◌, All, if◌then◌else◌, nat_le}
 use Rattle.std.specs.Int.{w16}
 use Rattle.std.specs.List.{flat_map}
-use Rattle.be_bytes.specs.Fields.{field_bytes}
 use Rattle.be_bytes.specs.Reading.{int16}
-use Rattle.be_bytes.specs.declared.field.Field.TheVariants.{Int16}
 use Rattle.be_bytes.proofs.FieldLemmas.{int16-field}
 use Rattle.glif.specs.Limits.{IsContourWithin, IsPointWithin}
 use Rattle.glif.specs.declared.shape.Point.{Point}
 use Rattle.glyf_loca.specs.Bounds.{points_in, xs_of, ys_of}
 use Rattle.glyf_loca.specs.Layout.{flag_bytes, flag_of, lasts_from, point_bytes, steps_from}
-use Rattle.glyf_loca.specs.Limits.{AreContoursWithin}
 use Rattle.glyf_loca.specs.SimpleGlyphs.{contours_from, coordinates_in, count_from, flags_in, has_bit, points_from, shape_in, step_in, xs_in, ys_in}
 use Rattle.glyf_loca.proofs.BoundsLemmas.{IsCoordinate, x_within, y_within}
 

@@ -1,10 +1,10 @@
 -- A glyph is read back as it was written.
-use Rattle.std.proofs.Common.{◌≡◌, ℕ, ℤ, suc, pos, ◌+◌, ◌*◌, ◌-◌, ◌%◌, ◌^◌, ◌<◌, ◌≤◌, true, List, [], ◌∷◌, ◌++◌, length, drop, replicate, Some, FitsSigned, refl, sym, ap, ◌∙◌, arith, append_assoc}
+use Rattle.std.proofs.Common.{◌≡◌, ℕ, ℤ, pos, ◌+◌, ◌*◌, ◌-◌, ◌%◌, ◌^◌, ◌<◌, ◌≤◌, true, List, [], ◌∷◌, ◌++◌, length, drop, replicate, Some, FitsSigned, refl, sym, ap, ◌∙◌, arith, append_assoc}
 use Rattle.std.proofs.lemmas.Bool.{le-leb}
 use Rattle.std.proofs.lemmas.Int.{ints}
 use Rattle.std.proofs.lemmas.List.{drop-drop, drop_at}
 use Rattle.std.proofs.lemmas.List.Sums.{sum_by-cons}
-use Rattle.std.specs.Prelude.{All, if◌then◌else◌, nat_le, sum_by}
+use Rattle.std.specs.Prelude.{nat_le, sum_by}
 use Rattle.std.specs.Int.{w16}
 use Rattle.std.specs.List.{AllByRecursion, flat_map}
 use Rattle.be_bytes.specs.Fields.{field_bytes, fields_bytes}
@@ -12,7 +12,6 @@ use Rattle.be_bytes.specs.Reading.{int16, prefix_of, records, uint16}
 use Rattle.be_bytes.specs.declared.field.Field.TheVariants.{Int16, Uint16}
 use Rattle.be_bytes.proofs.FieldLemmas.{int16-field, uint16-field}
 use Rattle.be_bytes.proofs.RecordLemmas.{ComesBack, records_back, records_size}
-use Rattle.glif.specs.Limits.{IsContourWithin}
 use Rattle.glif.specs.declared.shape.Point.{Point}
 use Rattle.glyf_loca.specs.declared.extent.Bounds.{Bounds}
 use Rattle.glyf_loca.specs.Bounds.{bounds_of, points_in, same_bounds}

@@ -1,17 +1,17 @@
 -- How many bytes a glyph has.
-use Rattle.std.proofs.Common.{◌≡◌, ℕ, ℤ, pos, ◌+◌, ◌-◌, ◌*◌, ◌%◌, ◌<◌, ◌≤◌, List, [], ◌∷◌, ◌++◌, length, map, replicate, sum_by, refl, ap, ◌∙◌, arith, length-append}
+use Rattle.std.proofs.Common.{◌≡◌, ℕ, ℤ, pos, ◌+◌, ◌-◌, ◌*◌, ◌%◌, ◌≤◌, List, [], ◌∷◌, ◌++◌, length, replicate, refl, ap, ◌∙◌, arith, length-append}
 use Rattle.std.proofs.lemmas.List.{length-map, length-replicate}
 use Rattle.std.proofs.lemmas.List.Elements.{All-head, All-tail}
 use Rattle.std.specs.Prelude.{All}
 use Rattle.std.specs.List.{flat_map}
-use Rattle.be_bytes.specs.Fields.{field_bytes, fields_bytes}
+use Rattle.be_bytes.specs.Fields.{field_bytes}
 use Rattle.be_bytes.specs.Reading.{uint16}
 use Rattle.be_bytes.specs.declared.field.Field.TheVariants.{Uint16}
 use Rattle.be_bytes.proofs.RecordLemmas.{records_size}
 use Rattle.glif.specs.declared.shape.Outline.{Outline}
 use Rattle.glif.specs.declared.shape.Point.{Point}
 use Rattle.glif.specs.Limits.{IsWithinLimits}
-use Rattle.glyf_loca.specs.Bounds.{bounds_of, points_in, xs_of, ys_of}
+use Rattle.glyf_loca.specs.Bounds.{points_in, xs_of, ys_of}
 use Rattle.glyf_loca.specs.Layout.{contours_of, filled, flag_bytes, glyf_bytes, glyph_bytes, header_fields, last_bytes, lasts_from, point_bytes, record_bytes, steps_from}
 use Rattle.glyf_loca.specs.Limits.{AreContoursWithin}
 use Rattle.glyf_loca.proofs.PointLemmas.{few_contours, lasts_count, points_count}

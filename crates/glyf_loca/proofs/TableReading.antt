@@ -3,17 +3,17 @@ use Rattle.std.proofs.Common.{◌≡◌, ℕ, suc, ◌+◌, ◌-◌, ◌*◌, �
 use Rattle.std.proofs.lemmas.Bool.{le-leb, ltb-false}
 use Rattle.std.proofs.lemmas.List.{append-nil, drop_at, length-map}
 use Rattle.std.proofs.lemmas.List.Elements.{All-from_recursion, All-head, All-tail}
-use Rattle.std.specs.Prelude.{All, if◌then◌else◌, nat_le, nat_lt}
-use Rattle.std.specs.List.{AllByRecursion, flat_map}
+use Rattle.std.specs.Prelude.{All, nat_le, nat_lt}
+use Rattle.std.specs.List.{AllByRecursion}
 use Rattle.basics.specs.Optional.{each}
-use Rattle.be_bytes.specs.Reading.{prefix_of, records, uint16, uint32}
+use Rattle.be_bytes.specs.Reading.{prefix_of, records, uint16}
 use Rattle.be_bytes.proofs.FieldLemmas.{uint16-field, uint32-field}
 use Rattle.be_bytes.proofs.RecordLemmas.{ComesBack, each_of, prefix_at, records_back}
 use Rattle.glif.specs.declared.shape.Outline.{Outline}
 use Rattle.glif.specs.declared.shape.Point.{Point}
 use Rattle.glif.specs.Limits.{IsWithinLimits}
 use Rattle.glyf_loca.specs.Layout.{AreWritten, contours_of, ends_from, glyf_bytes, glyph_bytes, loca_bytes, offset_bytes}
-use Rattle.glyf_loca.specs.Limits.{AreContoursWithin, AreFit}
+use Rattle.glyf_loca.specs.Limits.{AreFit}
 use Rattle.glyf_loca.specs.SimpleGlyphs.{glyph_in}
 use Rattle.glyf_loca.specs.Slices.{between, glyphs_in, offset_in, offset_size, offsets_in, slices_from, slices_in}
 use Rattle.glyf_loca.proofs.RecordReading.{glyph_back}
@@ -30,9 +30,10 @@ pub ends_stand : (limit at : ℕ) (glyphs : List (List (List Point))) → at % 4
 ends_stand limit at [] aligned within = tt
 ends_stand limit at (own ∷ glyphs) aligned within =
     let size = length-append (glyph_bytes own) (glyf_bytes glyphs) in
-    let next : (at + length (glyph_bytes own)) % 4 ≡ 0 = omega (arith, aligned, glyph_aligned own) in
-    (record { within = omega (arith, size, within); even = next },
-    ends_stand limit (at + length (glyph_bytes own)) glyphs next (omega (arith, size, within)))
+    let next : (at + length (glyph_bytes own)) % 4 ≡ 0 = omega (arith, aligned, glyph_aligned own) in (
+      record { within = omega (arith, size, within); even = next },
+      ends_stand limit (at + length (glyph_bytes own)) glyphs next (omega (arith, size, within)),
+    )
 
 pub offsets_stand : (glyphs : List (List (List Point))) → AllByRecursion (IsOffset (length (glyf_bytes glyphs))) (0 ∷ ends_from 0 glyphs)
 offsets_stand glyphs =

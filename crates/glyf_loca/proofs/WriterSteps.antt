@@ -1,5 +1,5 @@
 -- What is appended, one part after another.
-use Rattle.std.proofs.Common.{◌≡◌, ℕ, ℤ, pos, ◌+◌, ◌*◌, ◌^◌, ◌<◌, ◌≤◌, List, [], ◌∷◌, ◌++◌, length, drop, map, take, get_or, refl, sym, ap, subst, ◌∙◌, arith, length-append, length-take-le, append_assoc}
+use Rattle.std.proofs.Common.{◌≡◌, ℕ, ℤ, pos, ◌+◌, ◌^◌, ◌<◌, ◌≤◌, List, [], ◌∷◌, ◌++◌, length, drop, map, take, get_or, refl, sym, ap, ◌∙◌, arith, length-append, length-take-le, append_assoc}
 use Rattle.std.proofs.lemmas.List.{append-nil, drop_more, map-append, take_more}
 use Rattle.std.proofs.lemmas.List.Concat.{flat_map-append}
 use Rattle.std.proofs.lemmas.List.Elements.{All-take}
@@ -84,8 +84,8 @@ one_more outlines outline glyf offsets new_glyf new_offsets bounds new_bounds ow
     record {
       glyf_is = grown_is ∙ sym (glyf_more outlines outline);
       offsets_are = further ∙ ap (λ (n : ℕ). offsets ++ n ∷ []) size
-        ∙ ap (λ (before : List ℕ). before ++ (0 + length (glyf_bytes (contours_of outlines) ++ glyph_bytes outline.contours)) ∷ []) stand.offsets_are
-        ∙ ap (λ (ends : List ℕ). 0 ∷ ends) (sym (ends_more 0 outlines outline));
+          ∙ ap (λ (before : List ℕ). before ++ (0 + length (glyf_bytes (contours_of outlines) ++ glyph_bytes outline.contours)) ∷ []) stand.offsets_are
+          ∙ ap (λ (ends : List ℕ). 0 ∷ ends) (sym (ends_more 0 outlines outline));
       bounds_are = told ∙ ap (λ (b : Bounds). bounds ++ b ∷ []) is ∙ ap (λ (before : List Bounds). before ++ outline_bounds outline ∷ []) stand.bounds_are ∙ sym (map-append outline_bounds outlines (outline ∷ []));
     }
 

@@ -1,6 +1,6 @@
 -- How the two tables are written, byte for byte.
 use Rattle.std.specs.Prelude.{◌≡◌, ℕ, ◌+◌, ◌-◌, ◌/◌, ◌%◌, ℤ, pos, ◌-ℤ◌, Bool, true, false, List, [], ◌∷◌, ◌++◌, length, map, replicate, if◌then◌else◌, nat_lt}
-use Rattle.std.specs.List.{concat, flat_map}
+use Rattle.std.specs.List.{flat_map}
 use Rattle.be_bytes.specs.Fields.{field_bytes, fields_bytes}
 use Rattle.be_bytes.specs.declared.field.Field.{Field}
 use Rattle.be_bytes.specs.declared.field.Field.TheVariants.{Int16, Uint8, Uint16, Uint32}

@@ -6,5 +6,4 @@ ghost use Rattle.glyf_loca.specs.Bounds.{BoundsLaw};
 /// the definitions; it does nothing.
 pub fn bounds_law()
     ensures { BoundsLaw }
-{
-}
+{}

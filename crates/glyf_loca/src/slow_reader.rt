@@ -6,10 +6,15 @@ use std::alloc::Global;
 pub(crate) type Dot = (i32, i32, bool, bool);
 
 const ON_CURVE: u8 = 0x01;
+
 const X_SHORT: u8 = 0x02;
+
 const Y_SHORT: u8 = 0x04;
+
 const REPEAT: u8 = 0x08;
+
 const X_SAME: u8 = 0x10;
+
 const Y_SAME: u8 = 0x20;
 
 fn byte(bytes: &[u8]) -> Option<(u8, &[u8])> {

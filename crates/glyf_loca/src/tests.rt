@@ -10,6 +10,7 @@ use std::alloc::Global;
 use std::test::Fail;
 
 /// The points of a glyph, and its bounds: xMin, yMin, xMax, yMax.
+#[derive(Clone, Copy)]
 struct Glyph {
     dots: &'static [Dot],
     bounds: (i16, i16, i16, i16),
@@ -132,7 +133,8 @@ fn zigzag(alloc: Global, count: i32) -> Option<Vec<Dot>> {
     let mut dots = Vec::new(alloc);
     for i in 0..count {
         let x = if i % 2 == 0 { i } else { -16384 };
-        dots.push((x, 16383 - i % 512, i % 3 != 0, i + 1 == count)).ok()?;
+        dots.push((x, 16383 - i % 512, i % 3 != 0, i + 1 == count))
+            .ok()?;
     }
     Some(dots)
 }
@@ -172,12 +174,16 @@ fn forms_of_offsets(rt: HostRuntime) -> Result<(), Fail> {
 /// A record with a repeated flag, steps in one byte and none at all, and two bytes of instructions.
 const SHORT: [u8; 38] = [
     // numberOfContours, xMin, yMin, xMax, yMax
-    0x00, 0x02, 0xFF, 0xFB, 0xFE, 0xD4, 0x00, 0x1E, 0x00, 0x28, // endPtsOfContours
-    0x00, 0x02, 0x00, 0x06, // instructionLength, instructions
-    0x00, 0x02, 0x4F, 0x4F, // flags
-    0x37, 0x35, 0x32, 0x23, 0x19, 0x02, // 10, same, 20 further, 35 back, and thrice the same
-    0x0A, 0x14, 0x23, // 20, 20 further, twice the same, -340, 300, -1
-    0x14, 0x14, 0xFE, 0xAC, 0x01, 0x2C, 0xFF, 0xFF, // filling
+    0x00, 0x02, 0xFF, 0xFB, 0xFE, 0xD4, 0x00, 0x1E, 0x00, 0x28,
+    // endPtsOfContours, instructionLength, instructions
+    0x00, 0x02, 0x00, 0x06, 0x00, 0x02, 0x4F, 0x4F,
+    // flags, the last one repeated twice
+    0x37, 0x35, 0x32, 0x23, 0x19, 0x02,
+    // x: 10, the same, 20 further, 35 back, and the same three times
+    0x0A, 0x14, 0x23,
+    // y: 20, 20 further, the same twice, 340 back, 300 further, 1 back
+    0x14, 0x14, 0xFE, 0xAC, 0x01, 0x2C, 0xFF, 0xFF,
+    // filling
     0x00, 0x00, 0x00,
 ];
 

@@ -1,6 +1,6 @@
 -- The points are none, or a first one and the rest.
-use Rattle.std.proofs.Common.{◌≡◌, ◌-◌, ◌≤◌, pos, false, List, [], ◌∷◌, length, drop, take, get_or, sym, ap, ◌∙◌, arith, length-take}
-use Rattle.std.proofs.lemmas.List.{drop_more, length-drop, nil_from_length, take_rest}
+use Rattle.std.proofs.Common.{◌≡◌, ◌-◌, pos, false, List, ◌∷◌, length, drop, take, get_or, sym, ap, ◌∙◌, arith}
+use Rattle.std.proofs.lemmas.List.{drop_more, nil_from_length, take_rest}
 use Rattle.std.proofs.lemmas.List.Elements.{All-drop, All-take}
 use Rattle.glif.specs.Limits.{IsPointWithin}
 use Rattle.glif.specs.declared.shape.Point.{Point}

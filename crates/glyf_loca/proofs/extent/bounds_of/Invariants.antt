@@ -1,4 +1,4 @@
-use Rattle.std.proofs.Common.{◌≡◌, fold, map, take}
+use Rattle.std.proofs.Common.{◌≡◌, fold, take}
 use Rattle.std.specs.Int.{int_max, int_min}
 use Rattle.glyf_loca.specs.Bounds.{xs_of, ys_of}
 use Rattle.glyf_loca.proofs.extent.bounds_of.Given as goal

@@ -1,5 +1,5 @@
 -- Each turn adds a glyph and the offset after it; in the end all are there.
-use Rattle.std.proofs.Common.{◌≡◌, ◌+◌, ◌%◌, ◌^◌, ◌<◌, ◌≤◌, ℕ, List, [], ◌∷◌, ◌++◌, length, take, sym, ap, subst, ◌∙◌, arith}
+use Rattle.std.proofs.Common.{◌≡◌, ◌%◌, ◌≤◌, ℕ, List, [], ◌∷◌, ◌++◌, length, take, sym, ap, subst, ◌∙◌, arith}
 use Rattle.std.proofs.lemmas.List.{take_all}
 use Rattle.std.specs.Prelude.{All, nat_lt}
 use Rattle.std.specs.List.{flat_map}
@@ -50,7 +50,7 @@ returns-clause-written c =
       glyf_is = c.loop-outline.invariant.glyf_is ∙ ap (λ (outlines : List Outline). glyf_bytes (contours_of outlines)) whole;
       long_is = ap (nat_lt 131070) size;
       loca_is = c.in_ok-loca.ensures
-        ∙ ap (flat_map (offset_bytes (nat_lt 131070 c.len-long.result))) (c.deref.ensures.value ∙ c.loop-outline.invariant.offsets_are ∙ ap (λ (outlines : List Outline). 0 ∷ ends_from 0 (contours_of outlines)) whole);
+          ∙ ap (flat_map (offset_bytes (nat_lt 131070 c.len-long.result))) (c.deref.ensures.value ∙ c.loop-outline.invariant.offsets_are ∙ ap (λ (outlines : List Outline). 0 ∷ ends_from 0 (contours_of outlines)) whole);
     }
 
 pub returns-clause-means : goal.returns-clause-means

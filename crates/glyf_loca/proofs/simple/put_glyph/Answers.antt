@@ -1,7 +1,6 @@
-use Rattle.std.proofs.Common.{◌≡◌, List, sym, ap, subst, ◌∙◌}
+use Rattle.std.proofs.Common.{◌≡◌, sym, ap, subst, ◌∙◌}
 use Rattle.std.specs.Prelude.{All}
 use Rattle.glif.specs.Limits.{IsPointWithin}
-use Rattle.glif.specs.declared.shape.Point.{Point}
 use Rattle.glyf_loca.specs.Bounds.{points_in}
 use Rattle.glyf_loca.proofs.PointLemmas.{points_within}
 use Rattle.glyf_loca.proofs.simple.put_glyph.Goals as goal

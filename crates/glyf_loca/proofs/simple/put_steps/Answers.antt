@@ -1,5 +1,5 @@
 -- A step fits, since both coordinates are within limits.
-use Rattle.std.proofs.Common.{◌≡◌, ℤ, pos, false, subst, sym, ◌∙◌, FitsSigned, arith, to_z-of_z}
+use Rattle.std.proofs.Common.{◌≡◌, ℤ, pos, false, subst, sym, ◌∙◌, arith}
 use Rattle.std.proofs.lemmas.Int.{ints}
 use Rattle.std.specs.Prelude.{◌-ℤ◌}
 use Rattle.std.specs.Int.{w16, w32, cast_signed, cast_unsigned}
@@ -30,7 +30,7 @@ loop-point-preserved c =
     let before_within : IsCoordinate before = record { low = invariant.least; high = invariant.greatest } in
     record {
       completes = steps_more c.args.axis c.args.points.now c.loop-point.point-index origin before here (cast_signed w16 (cast_unsigned w16 (cast_signed w32 (cast_unsigned w32 (here -ℤ before))))) c.loop-point.out.items _ _ c.loop-point-test.true
-        (here_is ∙ c.coordinate-here.ensures) (step_kept here before here_within before_within) invariant.completes c.in_ok-put_i16.ensures.ok;
+          (here_is ∙ c.coordinate-here.ensures) (step_kept here before here_within before_within) invariant.completes c.in_ok-put_i16.ensures.ok;
       least = here_within.low;
       greatest = here_within.high;
     }
