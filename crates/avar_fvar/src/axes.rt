@@ -49,7 +49,7 @@ pub fn fvar(
     Ok(bytes)
 }
 
-// The fields before the axes.
+/// The fields before the axes.
 #[tactic(auto, unfolding(crate::specs::Layout::fvar_header))]
 fn header(axes: u16, instances: u16) -> [Field; 8]
     requires { axes ≤ 8 }
@@ -72,7 +72,7 @@ fn header(axes: u16, instances: u16) -> [Field; 8]
     ]
 }
 
-// The fields of an axis.
+/// The fields of an axis.
 #[tactic(auto, unfolding(crate::specs::Layout::axis_fields))]
 fn fields_of(axis: &AxisRecord) -> [Field; 6]
     ensures value { result ≡ axis_fields (axis_of axis.now) }
@@ -90,7 +90,7 @@ fn fields_of(axis: &AxisRecord) -> [Field; 6]
     ]
 }
 
-// The field of a name's id.
+/// The field of a name's id.
 fn name_field(id: u16) -> Field
     ensures value { result ≡ Uint16 id }
     ensures fits { id < 2 ^ 16 }
@@ -98,7 +98,7 @@ fn name_field(id: u16) -> Field
     Uint16(id)
 }
 
-// Appends an axis.
+/// Appends an axis.
 fn put_axis(out: &mut Vec<u8>, axis: &AxisRecord) -> Result<(), NoMemory>
     ensures written { OnOk result (out.new.items ≡ out.old.items ++ axis_bytes (axis_of axis.now)) }
     ensures fits { OnOk result (FitsAxis (axis_of axis.now)) }
@@ -106,7 +106,7 @@ fn put_axis(out: &mut Vec<u8>, axis: &AxisRecord) -> Result<(), NoMemory>
     put_fields(out, &fields_of(axis))
 }
 
-// Appends an instance.
+/// Appends an instance.
 fn put_instance(out: &mut Vec<u8>, instance: &InstanceRecord) -> Result<(), NoMemory>
     ensures written { OnOk result (out.new.items ≡ out.old.items ++ instance_bytes instance.now) }
     ensures fits { OnOk result (FitsInstance instance.now) }

@@ -33,7 +33,7 @@ pub fn avar(alloc: Global, axes: &Seq<AxisRecord>) -> Result<Vec<u8>, NoMemory>
     Ok(bytes)
 }
 
-// Appends the segment map of an axis.
+/// Appends the segment map of an axis.
 fn put_axis_map(alloc: Global, out: &mut Vec<u8>, axis: &AxisRecord) -> Result<(), NoMemory>
     ensures written { OnOk result (out.new.items ≡ out.old.items ++ segment_map_bytes (pairs_of axis.now)) }
     ensures segments { OnOk result (AreSegments (pairs_of axis.now)) }
@@ -42,7 +42,7 @@ fn put_axis_map(alloc: Global, out: &mut Vec<u8>, axis: &AxisRecord) -> Result<(
     put_pairs(out, pairs.as_slice())
 }
 
-// Appends pairs, and their number before them.
+/// Appends pairs, and their number before them.
 fn put_pairs(out: &mut Vec<u8>, pairs: &[(Fix<14>, Fix<14>)]) -> Result<(), NoMemory>
     requires { AreSegments pairs.now }
     ensures { OnOk result (out.new.items ≡ out.old.items ++ segment_map_bytes pairs.now) }
@@ -55,7 +55,7 @@ fn put_pairs(out: &mut Vec<u8>, pairs: &[(Fix<14>, Fix<14>)]) -> Result<(), NoMe
     Ok(())
 }
 
-// The field of a coordinate, as F2DOT14.
+/// The field of a coordinate, as F2DOT14.
 fn coordinate_field(coordinate: Fix<14>) -> Field
     requires { IsCoordinate coordinate }
     ensures { result ≡ Int16 coordinate }

@@ -160,7 +160,7 @@ fn instance_of(alloc: Global, row: &Instance) -> Option<InstanceRecord> {
     })
 }
 
-// Whether each instance has one user value an axis.
+/// Whether each instance has one user value an axis.
 fn is_each(instances: &[InstanceRecord], axes: usize) -> bool
     ensures { IsTrue result → All (λ instance. length instance.user ≡ axes) instances.now }
 {
@@ -172,7 +172,7 @@ fn is_each(instances: &[InstanceRecord], axes: usize) -> bool
     true
 }
 
-// Both tables of a font.
+/// Both tables of a font.
 fn tables_of(alloc: Global, case: &Case) -> Option<(Vec<u8>, Vec<u8>)> {
     let mut axes = Seq::new(alloc);
     for row in case.axes {

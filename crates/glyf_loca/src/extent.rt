@@ -19,7 +19,7 @@ pub struct Bounds {
     pub y_max: i16,
 }
 
-// The bounds of points.
+/// The bounds of points.
 pub(crate) fn bounds_of(points: &[Point]) -> Bounds
     requires { All IsPointWithin points.now }
     ensures { result ≡ bounds_of points.now }
@@ -39,7 +39,7 @@ pub(crate) fn bounds_of(points: &[Point]) -> Bounds
     bounds
 }
 
-// The bounds of a single point.
+/// The bounds of a single point.
 fn at(point: &Point) -> Bounds
     requires { IsPointWithin point.now }
     ensures { result ≡ record { x_min = point.now.x; y_min = point.now.y; x_max = point.now.x; y_max = point.now.y } }
@@ -53,7 +53,7 @@ fn at(point: &Point) -> Bounds
     }
 }
 
-// The bounds with a point more.
+/// The bounds with a point more.
 fn extended(bounds: Bounds, point: &Point) -> Bounds
     requires { IsPointWithin point.now }
     ensures x_min { result.x_min ≡ int_min bounds.x_min point.now.x }

@@ -10,7 +10,7 @@ use std::alloc::Global;
 /// The greatest even number whose half has 16 bits: the most bytes that short offsets reach over.
 pub(crate) const SHORT_REACH: usize = 131_070;
 
-// The offsets as `loca` has them: long ones, or short ones, which are halves.
+/// The offsets as `loca` has them: long ones, or short ones, which are halves.
 pub(crate) fn loca(alloc: Global, offsets: &[u32], long: bool) -> Result<Vec<u8>, NoMemory>
     requires { long ≡ false → All (λ offset. offset ≤ SHORT_REACH) offsets.now }
     ensures { IfOk result (λ bytes. bytes.items ≡ flat_map (offset_bytes long) offsets.now) }
@@ -22,7 +22,7 @@ pub(crate) fn loca(alloc: Global, offsets: &[u32], long: bool) -> Result<Vec<u8>
     Ok(bytes)
 }
 
-// The field of an offset.
+/// The field of an offset.
 fn offset_field(offset: u32, long: bool) -> Field
     requires { long ≡ false → offset ≤ SHORT_REACH }
     ensures { result ≡ offset_field long offset }

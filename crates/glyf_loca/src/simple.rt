@@ -26,7 +26,7 @@ pub(crate) enum Axis {
     Y,
 }
 
-// Appends a glyph, and gives its bounds.
+/// Appends a glyph, and gives its bounds.
 pub(crate) fn put_glyph(
     alloc: Global,
     out: &mut Vec<u8>,
@@ -47,7 +47,7 @@ pub(crate) fn put_glyph(
     Ok(bounds)
 }
 
-// The points of contours, one after another, as a glyph's record has them.
+/// The points of contours, one after another, as a glyph's record has them.
 fn points_in(alloc: Global, contours: &[Seq<Point>]) -> Result<Vec<Point>, NoMemory>
     ensures { IfOk result (λ points. points.items ≡ points_in contours.now) }
 {
@@ -58,7 +58,7 @@ fn points_in(alloc: Global, contours: &[Seq<Point>]) -> Result<Vec<Point>, NoMem
     Ok(points)
 }
 
-// Appends the record of a glyph, given the points of its contours and their bounds.
+/// Appends the record of a glyph, given the points of its contours and their bounds.
 fn put_record(
     out: &mut Vec<u8>,
     contours: &[Seq<Point>],
@@ -77,7 +77,7 @@ fn put_record(
     put_points(out, points)
 }
 
-// The fields before the arrays of a record.
+/// The fields before the arrays of a record.
 #[tactic(auto, unfolding(crate::specs::Layout::header_fields))]
 fn header(contours: i16, bounds: Bounds) -> [Field; 5]
     ensures { result ≡ header_fields contours bounds }
@@ -92,7 +92,7 @@ fn header(contours: i16, bounds: Bounds) -> [Field; 5]
     ]
 }
 
-// Appends the index of each contour's last point.
+/// Appends the index of each contour's last point.
 fn put_lasts(out: &mut Vec<u8>, contours: &[Seq<Point>]) -> Result<(), NoMemory>
     requires { AreContoursWithin contours.now }
     ensures { OnOk result (out.new.items ≡ out.old.items ++ flat_map last_bytes (lasts_from 0 contours.now)) }
@@ -105,7 +105,7 @@ fn put_lasts(out: &mut Vec<u8>, contours: &[Seq<Point>]) -> Result<(), NoMemory>
     Ok(())
 }
 
-// Appends the flags and the coordinates of points.
+/// Appends the flags and the coordinates of points.
 fn put_points(out: &mut Vec<u8>, points: &[Point]) -> Result<(), NoMemory>
     requires { All IsPointWithin points.now }
     ensures { OnOk result (out.new.items ≡ out.old.items ++ point_bytes points.now) }
@@ -115,7 +115,7 @@ fn put_points(out: &mut Vec<u8>, points: &[Point]) -> Result<(), NoMemory>
     put_steps(out, points, Axis::Y)
 }
 
-// Appends the flag of each point.
+/// Appends the flag of each point.
 fn put_flags(out: &mut Vec<u8>, points: &[Point]) -> Result<(), NoMemory>
     ensures { OnOk result (out.new.items ≡ out.old.items ++ flat_map flag_bytes points.now) }
 {
@@ -125,7 +125,7 @@ fn put_flags(out: &mut Vec<u8>, points: &[Point]) -> Result<(), NoMemory>
     Ok(())
 }
 
-// Appends the step to each coordinate on an axis from the one before, and to the first one from 0.
+/// Appends the step to each coordinate on an axis from the one before, and to the first one from 0.
 fn put_steps(out: &mut Vec<u8>, points: &[Point], axis: Axis) -> Result<(), NoMemory>
     requires { All IsPointWithin points.now }
     ensures { OnOk result (out.new.items ≡ out.old.items ++ steps_from (pos 0) (coordinates_on axis points.now)) }
@@ -139,7 +139,7 @@ fn put_steps(out: &mut Vec<u8>, points: &[Point], axis: Axis) -> Result<(), NoMe
     Ok(())
 }
 
-// The coordinate of a point on an axis.
+/// The coordinate of a point on an axis.
 fn coordinate(point: &Point, axis: Axis) -> i32
     ensures { result ≡ coordinate_on axis point.now }
 {

@@ -31,7 +31,7 @@ fn word(bytes: &[u8]) -> Option<(u16, &[u8])> {
     Some((u16::from_be_bytes([*high, *low]), rest))
 }
 
-// The words from the start, so many.
+/// The words from the start, so many.
 fn words(alloc: Global, bytes: &[u8], count: u16) -> Option<(Vec<u16>, &[u8])> {
     let mut words = Vec::new(alloc);
     let mut rest = bytes;
@@ -43,7 +43,7 @@ fn words(alloc: Global, bytes: &[u8], count: u16) -> Option<(Vec<u16>, &[u8])> {
     Some((words, rest))
 }
 
-// A flag, and how often it is repeated.
+/// A flag, and how often it is repeated.
 fn flag(bytes: &[u8]) -> Option<(u8, u8, &[u8])> {
     let (flag, rest) = byte(bytes)?;
     if flag & REPEAT == 0 {

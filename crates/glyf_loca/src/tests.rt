@@ -78,7 +78,7 @@ fn outline(alloc: Global, dots: &[Dot]) -> Option<Outline> {
     })
 }
 
-// Whether `tables` may be called.
+/// Whether `tables` may be called.
 fn are_fit(outlines: &[Outline]) -> bool
     ensures { IsTrue result → AreFit outlines.now }
 {
@@ -104,7 +104,7 @@ fn made(alloc: Global, rows: &[&[Dot]]) -> Option<GlyfLoca> {
     tables(alloc, &outlines).ok()
 }
 
-// The points of a glyph, as the slow reader finds them.
+/// The points of a glyph, as the slow reader finds them.
 fn read(alloc: Global, made: &GlyfLoca, glyph: usize) -> Option<Vec<Dot>> {
     let from = offset(&made.loca, made.long, glyph)?;
     let to = offset(&made.loca, made.long, glyph.checked_add(1)?)?;
@@ -128,7 +128,7 @@ fn tables_by_hand(rt: HostRuntime) -> Result<(), Fail> {
     Ok(())
 }
 
-// A contour of so many points, which go far and turn often.
+/// A contour of so many points, which go far and turn often.
 fn zigzag(alloc: Global, count: i32) -> Option<Vec<Dot>> {
     let mut dots = Vec::new(alloc);
     for i in 0..count {
@@ -197,7 +197,7 @@ const SHORT_DOTS: [Dot; 7] = [
     (-5, -1, true, true),
 ];
 
-// The definition reads these bytes too.
+/// The definition reads these bytes too.
 fn short_record() -> [u8; 38]
     ensures { glyph_in result ≡ Some (
         (record { x = pos 10; y = pos 20; on = true } ∷ record { x = pos 10; y = pos 40; on = true } ∷ record { x = pos 30; y = pos 40; on = false } ∷ []) ∷

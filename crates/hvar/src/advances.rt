@@ -34,7 +34,7 @@ pub fn table(
     Ok(bytes)
 }
 
-// The fields before the store.
+/// The fields before the store.
 #[tactic(auto, unfolding(crate::specs::Layout::header_fields))]
 fn header() -> [Field; 6]
     ensures { result ≡ header_fields }

@@ -28,7 +28,7 @@ pub(crate) fn put_item_data(
     Ok(())
 }
 
-// Appends the index of each of so many regions.
+/// Appends the index of each of so many regions.
 fn put_indexes(out: &mut Vec<u8>, regions: u16) -> Result<(), NoMemory>
     ensures { OnOk result (out.new.items ≡ out.old.items ++ flat_map index_bytes (count_from regions 0)) }
 {
@@ -38,7 +38,7 @@ fn put_indexes(out: &mut Vec<u8>, regions: u16) -> Result<(), NoMemory>
     Ok(())
 }
 
-// Appends a row.
+/// Appends a row.
 fn put_row(out: &mut Vec<u8>, row: &[i32]) -> Result<(), NoMemory>
     requires { All (FitsSigned w16) row.now }
     ensures { OnOk result (out.new.items ≡ out.old.items ++ row_bytes row.now) }

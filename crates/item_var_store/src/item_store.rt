@@ -43,7 +43,7 @@ pub fn store(
     Ok(bytes)
 }
 
-// The fields before the region list.
+/// The fields before the region list.
 #[tactic(auto, unfolding(crate::specs::Layout::store_header))]
 fn header(axes: u16, regions: u16) -> [Field; 4]
     requires few_axes { axes ≤ 8 }

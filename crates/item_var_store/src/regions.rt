@@ -28,7 +28,7 @@ pub(crate) fn put_region_list(
     Ok(())
 }
 
-// Appends a region.
+/// Appends a region.
 fn put_region(out: &mut Vec<u8>, region: &[Triple]) -> Result<(), NoMemory>
     requires { All IsNormalisedTriple region.now }
     ensures { OnOk result (out.new.items ≡ out.old.items ++ region_bytes region.now) }
@@ -39,7 +39,7 @@ fn put_region(out: &mut Vec<u8>, region: &[Triple]) -> Result<(), NoMemory>
     Ok(())
 }
 
-// The fields of one axis of a region.
+/// The fields of one axis of a region.
 #[tactic(auto, unfolding(crate::specs::Layout::triple_fields))]
 fn fields_of(triple: &Triple) -> [Field; 3]
     requires { IsNormalisedTriple triple.now }
@@ -52,7 +52,7 @@ fn fields_of(triple: &Triple) -> [Field; 3]
     ]
 }
 
-// The field of a coordinate, as F2DOT14.
+/// The field of a coordinate, as F2DOT14.
 fn coordinate_field(coordinate: Fix<14>) -> Field
     requires { IsNormalised coordinate }
     ensures { result ≡ Int16 coordinate }

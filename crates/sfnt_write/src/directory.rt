@@ -33,7 +33,7 @@ pub(crate) struct Directory {
     pub(crate) file_sum: u32,
 }
 
-// The directory of these tables, in which the adjustment of `head` is 0.
+/// The directory of these tables, in which the adjustment of `head` is 0.
 pub(crate) fn directory_of(alloc: Global, tables: &[Table]) -> Result<Directory, NoMemory>
     requires some { 1 ≤ length tables.now }
     requires few { length tables.now ≤ 32 }
@@ -49,7 +49,7 @@ pub(crate) fn directory_of(alloc: Global, tables: &[Table]) -> Result<Directory,
     Ok(Directory { bytes, file_sum })
 }
 
-// The fields before the records.
+/// The fields before the records.
 #[tactic(auto, unfolding(crate::specs::Layout::header_fields))]
 fn header(count: u16, search: SearchFields) -> [Field; 5]
     ensures { result ≡ header_fields count search }
@@ -65,7 +65,7 @@ fn header(count: u16, search: SearchFields) -> [Field; 5]
     ]
 }
 
-// Appends the records of all tables, and gives the sum of their words.
+/// Appends the records of all tables, and gives the sum of their words.
 fn put_records(out: &mut Vec<u8>, tables: &[Table]) -> Result<u32, NoMemory>
     requires few { length tables.now ≤ 32 }
     requires small { total_size (map slice_of tables.now) < 2 ^ 31 }
@@ -84,7 +84,7 @@ fn put_records(out: &mut Vec<u8>, tables: &[Table]) -> Result<u32, NoMemory>
     Ok(sum)
 }
 
-// Appends the record of a table at this offset.
+/// Appends the record of a table at this offset.
 fn put_record(out: &mut Vec<u8>, table: &Table, checksum: u32, offset: u32) -> Result<(), NoMemory>
     requires small { length (slice_of table.now).bytes < 2 ^ 31 }
     requires summed { checksum ≡ word_sum (slice_of table.now).bytes % 2 ^ 32 }
@@ -96,7 +96,7 @@ fn put_record(out: &mut Vec<u8>, table: &Table, checksum: u32, offset: u32) -> R
     put_fields(out, &fields)
 }
 
-// The fields of a record.
+/// The fields of a record.
 #[tactic(auto, unfolding(crate::specs::Layout::record_fields))]
 fn record(tag: u32, checksum: u32, offset: u32, size: u32) -> [Field; 4]
     ensures { result ≡ record_fields (record { tag = tag; checksum = checksum; offset = offset; size = size }) }
@@ -104,7 +104,7 @@ fn record(tag: u32, checksum: u32, offset: u32, size: u32) -> [Field; 4]
     [Uint32(tag), Uint32(checksum), Uint32(offset), Uint32(size)]
 }
 
-// Where a table at this offset ends with its filling.
+/// Where a table at this offset ends with its filling.
 fn end_of(table: &Table, offset: u32) -> u32
     requires { offset + length (slice_of table.now).bytes + 3 < 2 ^ 32 }
     ensures { result ≡ offset + length (layout.filled (slice_of table.now).bytes) }

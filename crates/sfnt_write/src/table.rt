@@ -23,7 +23,7 @@ pub struct Table {
     pub bytes: Vec<u8>,
 }
 
-// The number that the letters of a tag write.
+/// The number that the letters of a tag write.
 #[tactic(auto, unfolding(crate::specs::Tables::tag_number))]
 pub(crate) fn tag_number(tag: [u8; 4]) -> u32
     ensures value { result ≡ tables.tag_number tag }
@@ -32,14 +32,14 @@ pub(crate) fn tag_number(tag: [u8; 4]) -> u32
     u32::from_be_bytes(tag)
 }
 
-// How many zeros fill so many bytes up to a multiple of 4.
+/// How many zeros fill so many bytes up to a multiple of 4.
 pub(crate) fn filling(size: usize) -> usize
     ensures { result ≡ layout.filling size }
 {
     (4 - size % 4) % 4
 }
 
-// Fills the bytes up to a multiple of 4.
+/// Fills the bytes up to a multiple of 4.
 fn fill(bytes: &mut Vec<u8>) -> Result<(), NoMemory>
     ensures { OnOk result (bytes.new.items ≡ layout.filled bytes.old.items) }
 {
@@ -49,7 +49,7 @@ fn fill(bytes: &mut Vec<u8>) -> Result<(), NoMemory>
     Ok(())
 }
 
-// Writes `checksumAdjustment` in place.
+/// Writes `checksumAdjustment` in place.
 fn put_adjustment(bytes: &mut [u8], adjustment: u32)
     requires { 12 ≤ length bytes.old }
     ensures { bytes.new ≡ layout.with_adjustment adjustment bytes.old }
@@ -57,7 +57,7 @@ fn put_adjustment(bytes: &mut [u8], adjustment: u32)
     bytes[ADJUSTMENT..ADJUSTMENT_END].copy_from_slice(&adjustment.to_be_bytes());
 }
 
-// The bytes of a table in the file: those of `head` with this adjustment, and others as they are.
+/// The bytes of a table in the file: those of `head` with this adjustment, and others as they are.
 fn adjusted(table: Table, adjustment: u32) -> Vec<u8>
     requires { HasField (slice_of table) }
     ensures { result.items ≡ layout.adjusted adjustment (slice_of table).tag (slice_of table).bytes }
@@ -69,7 +69,7 @@ fn adjusted(table: Table, adjustment: u32) -> Vec<u8>
     bytes
 }
 
-// The piece of a table, filled.
+/// The piece of a table, filled.
 pub(crate) fn piece_of(table: Table, adjustment: u32) -> Result<Vec<u8>, NoMemory>
     requires { HasField (slice_of table) }
     ensures { IfOk result (λ piece. piece.items ≡ layout.piece_of adjustment (slice_of table)) }

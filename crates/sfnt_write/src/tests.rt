@@ -112,7 +112,7 @@ const POST: u32 = 0x706F_7374;
 
 const GLYF: u32 = 0x676C_7966;
 
-// A table `head` with this revision.
+/// A table `head` with this revision.
 fn head_of(alloc: Global, scale: u32) -> Result<Vec<u8>, NoMemory>
     ensures { IfOk result (λ bytes. IsPlainHead bytes.items) }
 {
@@ -141,7 +141,7 @@ fn head_of(alloc: Global, scale: u32) -> Result<Vec<u8>, NoMemory>
     Ok(bytes)
 }
 
-// Three tables of a font.
+/// Three tables of a font.
 fn three(
     alloc: Global,
     first: Vec<u8>,
@@ -170,7 +170,7 @@ fn three(
     Ok(Seq::from_vec(tables))
 }
 
-// The one table of a font.
+/// The one table of a font.
 fn alone(alloc: Global, head: Vec<u8>) -> Result<Seq<Table>, NoMemory>
     requires { IsPlainHead head.items }
     ensures { IfOk result (λ tables. CanBeFont (map slice_of tables)) }
@@ -184,7 +184,7 @@ fn alone(alloc: Global, head: Vec<u8>) -> Result<Seq<Table>, NoMemory>
     Ok(Seq::from_vec(tables))
 }
 
-// The pieces of a font.
+/// The pieces of a font.
 fn pieces_of(alloc: Global, case: &Case) -> Option<Seq<Vec<u8>>> {
     if 1000 < case.first.len() || 1000 < case.last.len() {
         return None;
@@ -220,7 +220,7 @@ fn head_alone(rt: HostRuntime) -> Result<(), Fail> {
     Ok(())
 }
 
-// The long number at an offset.
+/// The long number at an offset.
 fn long_at(file: &[u8], offset: usize) -> Option<u32> {
     match file.get(offset..)? {
         [a, b, c, d, ..] => Some(u32::from_be_bytes([*a, *b, *c, *d])),
@@ -228,7 +228,7 @@ fn long_at(file: &[u8], offset: usize) -> Option<u32> {
     }
 }
 
-// The table of a tag, by the directory.
+/// The table of a tag, by the directory.
 fn table_of(file: &[u8], tag: u32) -> Option<&[u8]> {
     let count = long_at(file, 4)? >> 16;
     for index in 0..count as usize {
@@ -242,7 +242,7 @@ fn table_of(file: &[u8], tag: u32) -> Option<&[u8]> {
     None
 }
 
-// The sum of the words of a file, byte by byte.
+/// The sum of the words of a file, byte by byte.
 fn sum_of(file: &[u8]) -> u32 {
     let mut sum = 0u32;
     for (index, byte) in file.iter().enumerate() {
@@ -257,7 +257,7 @@ fn sum_of(file: &[u8]) -> u32 {
     sum
 }
 
-// Whether the reader finds the tables of the row, and `head` but for its adjustment.
+/// Whether the reader finds the tables of the row, and `head` but for its adjustment.
 fn has_tables(file: &[u8], case: &Case, head: &[u8]) -> Option<bool> {
     let own = table_of(file, HEAD)?;
     let others = table_of(file, OS2)? == case.first
@@ -267,7 +267,7 @@ fn has_tables(file: &[u8], case: &Case, head: &[u8]) -> Option<bool> {
     Some(others && same)
 }
 
-// The bytes of all pieces.
+/// The bytes of all pieces.
 fn file_of(alloc: Global, case: &Case) -> Option<Vec<u8>> {
     let mut file = Vec::new(alloc);
     for piece in pieces_of(alloc, case)?.as_slice() {
