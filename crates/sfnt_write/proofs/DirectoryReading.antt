@@ -88,9 +88,9 @@ directory_read search tables rest few small tags =
     let written : List ℕ = flat_map record_bytes directory in
     let header : List ℕ = fields_bytes (header_fields count search) in
     let each = each_of FitsRecord (ComesBack record_bytes table_record_in 16) record_back directory (records_fit (tables_offset count) tables tags (omega arith)) in
-    let front = header_read count search (written ++ rest) (omega arith) in
+    let header_there = header_read count search (written ++ rest) (omega arith) in
     ap directory_in (append_assoc header written rest)
-    ∙ read_directory (header ++ (written ++ rest)) count directory front.0
-    (ap (records table_record_in 16 count) front.1
+    ∙ read_directory (header ++ (written ++ rest)) count directory header_there.0
+    (ap (records table_record_in 16 count) header_there.1
     ∙ ap (λ (n : ℕ). records table_record_in 16 n (written ++ rest)) (sym (records_count (tables_offset count) tables))
     ∙ records_back record_bytes table_record_in 16 directory rest each)

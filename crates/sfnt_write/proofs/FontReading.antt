@@ -39,14 +39,14 @@ option_map_same f (Some b) same = ap Some (same b)
 option_map_same f None same = refl
 
 module _ (search : SearchFields) (tables : List Slice) (can : CanBeFont tables) (tags : AllByRecursion FitsTag tables) where
-  abbrev front : List ℕ
-  front = directory_bytes search tables
+  abbrev prefix : List ℕ
+  prefix = directory_bytes search tables
 
   abbrev n : ℕ
   n = adjustment_of (plain_file search tables)
 
   abbrev file : List ℕ
-  file = front ++ concat (map (piece_of n) tables)
+  file = prefix ++ concat (map (piece_of n) tables)
 
   abbrev start : ℕ
   start = tables_offset (length tables)
@@ -57,11 +57,11 @@ module _ (search : SearchFields) (tables : List Slice) (can : CanBeFont tables) 
   n_fits : n < 2 ^ 32
   n_fits = omega arith
 
-  head_there : HeadStands n file front start tables
-  head_there = head_stands n file front 0 start tables can.head n_fits (tables_plain tables can) can.rise can.head_there refl (directory_size search tables)
+  head_there : HeadStands n file prefix start tables
+  head_there = head_stands n file prefix 0 start tables can.head n_fits (tables_plain tables can) can.rise can.head_there refl (directory_size search tables)
 
   in_order : StandInOrder file 0 start (records_from start tables)
-  in_order = stand n file front 0 start start tables (tables_plain tables can) can.rise refl (directory_size search tables) (omega arith) (omega arith)
+  in_order = stand n file prefix 0 start start tables (tables_plain tables can) can.rise refl (directory_size search tables) (omega arith) (omega arith)
 
   is_font : IsFontFile file
   is_font =
@@ -81,7 +81,7 @@ module _ (search : SearchFields) (tables : List Slice) (can : CanBeFont tables) 
   each_table : (tag : ℕ) → table_in file tag ≡ option_map (adjusted n tag) (bytes_of tag tables)
   each_table tag =
       read_table file tag (records_from start tables) directory_there
-      ∙ found n file front start tables tag (tables_plain tables can) refl (directory_size search tables)
+      ∙ found n file prefix start tables tag (tables_plain tables can) refl (directory_size search tables)
 
   other_same : (tag : ℕ) → tag ≢ HEAD → (b : List ℕ) → adjusted n tag b ≡ b
   other_same tag other b =

@@ -18,15 +18,15 @@ use Rattle.sfnt_write.proofs.WordSums.{filled_size, filled_whole}
 
 -- ---- bytes after others
 
-pub part_at : (file front own zeros more : List ℕ) (offset size : ℕ) → file ≡ front ++ ((own ++ zeros) ++ more) → length front ≡ offset → length own ≡ size → prefix_of size (drop offset file) ≡ Some own
-part_at file front own zeros more offset size spelled at is =
+pub part_at : (file prefix own zeros more : List ℕ) (offset size : ℕ) → file ≡ prefix ++ ((own ++ zeros) ++ more) → length prefix ≡ offset → length own ≡ size → prefix_of size (drop offset file) ≡ Some own
+part_at file prefix own zeros more offset size spelled at is =
     ap (λ (b : List ℕ). prefix_of size (drop offset b)) spelled
-    ∙ ap (prefix_of size) (drop_at front ((own ++ zeros) ++ more) offset at ∙ append_assoc own zeros more)
+    ∙ ap (prefix_of size) (drop_at prefix ((own ++ zeros) ++ more) offset at ∙ append_assoc own zeros more)
     ∙ prefix_at own (zeros ++ more) size is
 
-pub further : (file front block more : List ℕ) (offset : ℕ) → file ≡ front ++ (block ++ more) → length front ≡ offset → (file ≡ (front ++ block) ++ more) × (length (front ++ block) ≡ offset + length block)
-further file front block more offset spelled at =
-    (spelled ∙ sym (append_assoc front block more), omega (arith, length-append front block))
+pub further : (file prefix block more : List ℕ) (offset : ℕ) → file ≡ prefix ++ (block ++ more) → length prefix ≡ offset → (file ≡ (prefix ++ block) ++ more) × (length (prefix ++ block) ≡ offset + length block)
+further file prefix block more offset spelled at =
+    (spelled ∙ sym (append_assoc prefix block more), omega (arith, length-append prefix block))
 
 -- the size of a table's piece is that of the table as it was given, filled
 piece_size : (n : ℕ) (own : Slice) → IsPlain own → length (piece_of n own) ≡ length (filled own.bytes)
@@ -40,45 +40,45 @@ found_step : (test : Bool) (own : TableRecord) (others : Option TableRecord) (f 
 found_step true own others f h b more here later = here refl
 found_step false own others f h b more here later = later
 
-pub found : (n : ℕ) (file front : List ℕ) (offset : ℕ) (tables : List Slice) (tag : ℕ) → AllByRecursion IsPlain tables → file ≡ front ++ concat (map (piece_of n) tables) → length front ≡ offset
+pub found : (n : ℕ) (file prefix : List ℕ) (offset : ℕ) (tables : List Slice) (tag : ℕ) → AllByRecursion IsPlain tables → file ≡ prefix ++ concat (map (piece_of n) tables) → length prefix ≡ offset
     → (record_of tag (records_from offset tables) >>= slice_in file) ≡ option_map (adjusted n tag) (bytes_of tag tables)
-found n file front offset [] tag plain spelled at = refl
-found n file front offset (own ∷ others) tag plain spelled at =
+found n file prefix offset [] tag plain spelled at = refl
+found n file prefix offset (own ∷ others) tag plain spelled at =
     let bytes : List ℕ = adjusted n own.tag own.bytes in
     let zeros : List ℕ = replicate (filling (length bytes)) 0 in
     let more : List ℕ = concat (map (piece_of n) others) in
-    let there = part_at file front bytes zeros more offset (length own.bytes) spelled at (adjusted_size n own plain.0) in
-    let next = further file front (piece_of n own) more offset spelled at in
+    let there = part_at file prefix bytes zeros more offset (length own.bytes) spelled at (adjusted_size n own plain.0) in
+    let next = further file prefix (piece_of n own) more offset spelled at in
     let size = piece_size n own plain.0 in
-    let later = found n file (front ++ piece_of n own) (offset + length (filled own.bytes)) others tag plain.1 next.0 (omega (arith, next.1, size)) in
+    let later = found n file (prefix ++ piece_of n own) (offset + length (filled own.bytes)) others tag plain.1 next.0 (omega (arith, next.1, size)) in
     let here : nat_eq own.tag tag ≡ true → slice_in file (record_at offset own) ≡ Some (adjusted n tag own.bytes) =
     λ (is : nat_eq own.tag tag ≡ true). there ∙ ap (λ (t : ℕ). Some (adjusted n t own.bytes)) (eqb-true own.tag tag is) in
     found_step (nat_eq own.tag tag) (record_at offset own) (record_of tag (records_from (offset + length (filled own.bytes)) others)) (slice_in file) (adjusted n tag) own.bytes (bytes_of tag others) here later
 
 -- ---- the tables stand in order
 
-pub stand : (n : ℕ) (file front : List ℕ) (tag low offset : ℕ) (tables : List Slice) → AllByRecursion IsPlain tables → Rise tag tables → file ≡ front ++ concat (map (piece_of n) tables) → length front ≡ offset → low ≤ offset → offset % 4 ≡ 0
+pub stand : (n : ℕ) (file prefix : List ℕ) (tag low offset : ℕ) (tables : List Slice) → AllByRecursion IsPlain tables → Rise tag tables → file ≡ prefix ++ concat (map (piece_of n) tables) → length prefix ≡ offset → low ≤ offset → offset % 4 ≡ 0
     → StandInOrder file tag low (records_from offset tables)
-stand n file front tag low offset [] plain rise spelled at above whole = tt
-stand n file front tag low offset (own ∷ others) plain rise spelled at above whole =
+stand n file prefix tag low offset [] plain rise spelled at above whole = tt
+stand n file prefix tag low offset (own ∷ others) plain rise spelled at above whole =
     let bytes : List ℕ = adjusted n own.tag own.bytes in
     let zeros : List ℕ = replicate (filling (length bytes)) 0 in
     let more : List ℕ = concat (map (piece_of n) others) in
     let same = adjusted_size n own plain.0 in
-    let next = further file front (piece_of n own) more offset spelled at in
+    let next = further file prefix (piece_of n own) more offset spelled at in
     let size = piece_size n own plain.0 in
     let filled_is = filled_size own.bytes in
-    let end : offset + length own.bytes ≤ length file = omega (arith, ap length next.0, length-append (front ++ piece_of n own) more, next.1, size, filled_is) in (
+    let end : offset + length own.bytes ≤ length file = omega (arith, ap length next.0, length-append (prefix ++ piece_of n own) more, next.1, size, filled_is) in (
       record {
         rises = rise.0;
         after_others = above;
         aligned = whole;
         within = end;
         bytes = bytes;
-        there = part_at file front bytes zeros more offset (length own.bytes) spelled at same;
+        there = part_at file prefix bytes zeros more offset (length own.bytes) spelled at same;
         summed = checksum_same n own plain.0;
       },
-      stand n file (front ++ piece_of n own) (own.tag + 1) (offset + length own.bytes) (offset + length (filled own.bytes)) others plain.1 rise.1 next.0 (omega (arith, next.1, size)) (omega (arith, filled_is)) (omega (arith, filled_whole own.bytes)),
+      stand n file (prefix ++ piece_of n own) (own.tag + 1) (offset + length own.bytes) (offset + length (filled own.bytes)) others plain.1 rise.1 next.0 (omega (arith, next.1, size)) (omega (arith, filled_is)) (omega (arith, filled_whole own.bytes)),
     )
 
 -- ---- head and its adjustment
@@ -95,20 +95,20 @@ pieces_plain n (own ∷ others) none =
     ]
 
 -- the record of head, its field, and the file with this field taken as 0
-pub record HeadStands (n : ℕ) (file front : List ℕ) (offset : ℕ) (tables : List Slice) : Type 0 where
+pub record HeadStands (n : ℕ) (file prefix : List ℕ) (offset : ℕ) (tables : List Slice) : Type 0 where
   pub head : TableRecord
   pub there : record_of HEAD (records_from offset tables) ≡ Some head
   pub size : head.size ≡ 54
   pub field : uint32 (drop (head.offset + 8) file) ≡ Some n
-  pub zeros : with_zeros (head.offset + 8) file ≡ front ++ concat (map (λ own. filled own.bytes) tables)
+  pub zeros : with_zeros (head.offset + 8) file ≡ prefix ++ concat (map (λ own. filled own.bytes) tables)
 
-regroup : (front first word last zeros more : List ℕ) → front ++ (((first ++ (word ++ last)) ++ zeros) ++ more) ≡ (front ++ first) ++ (word ++ ((last ++ zeros) ++ more))
-regroup front first word last zeros more = simp append_assoc
+regroup : (prefix first word last zeros more : List ℕ) → prefix ++ (((first ++ (word ++ last)) ++ zeros) ++ more) ≡ (prefix ++ first) ++ (word ++ ((last ++ zeros) ++ more))
+regroup prefix first word last zeros more = simp append_assoc
 
 -- the first table is head
-here_stands : (n : ℕ) (file front : List ℕ) (offset : ℕ) (own : Slice) (others : List Slice) → n < 2 ^ 32 → nat_eq own.tag HEAD ≡ true → IsPlainHead own.bytes → AllByRecursion IsNotHead others → length (adjusted n own.tag own.bytes) ≡ length own.bytes → file ≡ front ++ concat (map (piece_of n) (own ∷ others)) → length front ≡ offset
-    → HeadStands n file front offset (own ∷ others)
-here_stands n file front offset own others fits is plain none same spelled at =
+here_stands : (n : ℕ) (file prefix : List ℕ) (offset : ℕ) (own : Slice) (others : List Slice) → n < 2 ^ 32 → nat_eq own.tag HEAD ≡ true → IsPlainHead own.bytes → AllByRecursion IsNotHead others → length (adjusted n own.tag own.bytes) ≡ length own.bytes → file ≡ prefix ++ concat (map (piece_of n) (own ∷ others)) → length prefix ≡ offset
+    → HeadStands n file prefix offset (own ∷ others)
+here_stands n file prefix offset own others fits is plain none same spelled at =
     let first : List ℕ = take 8 own.bytes in
     let last : List ℕ = drop 4 (drop 8 own.bytes) in
     let word : List ℕ = to_be_bytes w32 n in
@@ -117,45 +117,45 @@ here_stands n file front offset own others fits is plain none same spelled at =
     let eight = first_size own.bytes plain in
     let piece_is : piece_of n own ≡ (first ++ (word ++ last)) ++ zeros =
     ap (λ (size : ℕ). adjusted n own.tag own.bytes ++ replicate (filling size) 0) same ∙ ap (λ (b : List ℕ). b ++ zeros) (adjusted_head n own is) in
-    let file_is : file ≡ (front ++ first) ++ (word ++ ((last ++ zeros) ++ more)) =
+    let file_is : file ≡ (prefix ++ first) ++ (word ++ ((last ++ zeros) ++ more)) =
     spelled
-    ∙ ap (λ (bs : List (List ℕ)). front ++ (piece_of n own ++ concat bs)) (pieces_plain n others none)
-    ∙ ap (λ (b : List ℕ). front ++ (b ++ more)) piece_is
-    ∙ regroup front first word last zeros more in
-    let before : length (front ++ first) ≡ offset + 8 = omega (arith, length-append front first, eight) in
+    ∙ ap (λ (bs : List (List ℕ)). prefix ++ (piece_of n own ++ concat bs)) (pieces_plain n others none)
+    ∙ ap (λ (b : List ℕ). prefix ++ (b ++ more)) piece_is
+    ∙ regroup prefix first word last zeros more in
+    let before : length (prefix ++ first) ≡ offset + 8 = omega (arith, length-append prefix first, eight) in
     record {
       head = record_at offset own;
       there = cond-true (nat_eq own.tag HEAD) (Some (record_at offset own)) (record_of HEAD (records_from (offset + length (filled own.bytes)) others)) is;
       size = plain.size;
-      field = ap uint32 (ap (drop (offset + 8)) file_is ∙ drop_at (front ++ first) (word ++ ((last ++ zeros) ++ more)) (offset + 8) before) ∙ uint32-field n ((last ++ zeros) ++ more) fits;
+      field = ap uint32 (ap (drop (offset + 8)) file_is ∙ drop_at (prefix ++ first) (word ++ ((last ++ zeros) ++ more)) (offset + 8) before) ∙ uint32-field n ((last ++ zeros) ++ more) fits;
       zeros =
           ap (with_zeros (offset + 8)) file_is
-          ∙ four_at (front ++ first) word ((last ++ zeros) ++ more) (offset + 8) before refl
-          ∙ sym (regroup front first (0 ∷ 0 ∷ 0 ∷ 0 ∷ []) last zeros more)
-          ∙ ap (λ (b : List ℕ). front ++ ((b ++ zeros) ++ more)) (sym (parts_of own.bytes plain));
+          ∙ four_at (prefix ++ first) word ((last ++ zeros) ++ more) (offset + 8) before refl
+          ∙ sym (regroup prefix first (0 ∷ 0 ∷ 0 ∷ 0 ∷ []) last zeros more)
+          ∙ ap (λ (b : List ℕ). prefix ++ ((b ++ zeros) ++ more)) (sym (parts_of own.bytes plain));
     }
 
 -- another table is before head
-later_stands : (n : ℕ) (file front : List ℕ) (offset : ℕ) (own : Slice) (others : List Slice) → nat_eq own.tag HEAD ≡ false → HeadStands n file (front ++ filled own.bytes) (offset + length (filled own.bytes)) others → HeadStands n file front offset (own ∷ others)
-later_stands n file front offset own others isnt later =
+later_stands : (n : ℕ) (file prefix : List ℕ) (offset : ℕ) (own : Slice) (others : List Slice) → nat_eq own.tag HEAD ≡ false → HeadStands n file (prefix ++ filled own.bytes) (offset + length (filled own.bytes)) others → HeadStands n file prefix offset (own ∷ others)
+later_stands n file prefix offset own others isnt later =
     record {
       head = later.head;
       there = cond-false (nat_eq own.tag HEAD) (Some (record_at offset own)) (record_of HEAD (records_from (offset + length (filled own.bytes)) others)) isnt ∙ later.there;
       size = later.size;
       field = later.field;
-      zeros = later.zeros ∙ append_assoc front (filled own.bytes) (concat (map (λ other. filled other.bytes) others));
+      zeros = later.zeros ∙ append_assoc prefix (filled own.bytes) (concat (map (λ other. filled other.bytes) others));
     }
 
-pub head_stands : (n : ℕ) (file front : List ℕ) (tag offset : ℕ) (tables : List Slice) (head : List ℕ) → n < 2 ^ 32 → AllByRecursion IsPlain tables → Rise tag tables → bytes_of HEAD tables ≡ Some head → file ≡ front ++ concat (map (piece_of n) tables) → length front ≡ offset
-    → HeadStands n file front offset tables
-head_stands n file front tag offset [] head fits plain rise there spelled at = absurd cc
-head_stands n file front tag offset (own ∷ others) head fits plain rise there spelled at =
+pub head_stands : (n : ℕ) (file prefix : List ℕ) (tag offset : ℕ) (tables : List Slice) (head : List ℕ) → n < 2 ^ 32 → AllByRecursion IsPlain tables → Rise tag tables → bytes_of HEAD tables ≡ Some head → file ≡ prefix ++ concat (map (piece_of n) tables) → length prefix ≡ offset
+    → HeadStands n file prefix offset tables
+head_stands n file prefix tag offset [] head fits plain rise there spelled at = absurd cc
+head_stands n file prefix tag offset (own ∷ others) head fits plain rise there spelled at =
     elim (eqb_tells own.tag HEAD) [
-      | inl is ↦ here_stands n file front offset own others fits is.0 (plain.0 is.1) (none_later (own.tag + 1) others (omega (arith, is.1)) rise.1) (adjusted_size n own plain.0) spelled at
+      | inl is ↦ here_stands n file prefix offset own others fits is.0 (plain.0 is.1) (none_later (own.tag + 1) others (omega (arith, is.1)) rise.1) (adjusted_size n own plain.0) spelled at
       | inr isnt ↦
           let same : piece_of n own ≡ filled own.bytes = ap filled (adjusted_other n own isnt.0) in
           let more : List ℕ = concat (map (piece_of n) others) in
-          let next = further file front (filled own.bytes) more offset (spelled ∙ ap (λ (b : List ℕ). front ++ (b ++ more)) same) at in
+          let next = further file prefix (filled own.bytes) more offset (spelled ∙ ap (λ (b : List ℕ). prefix ++ (b ++ more)) same) at in
           let later : bytes_of HEAD others ≡ Some head = sym (cond-false (nat_eq own.tag HEAD) (Some own.bytes) (bytes_of HEAD others) isnt.0) ∙ there in
-          later_stands n file front offset own others isnt.0 (head_stands n file (front ++ filled own.bytes) (own.tag + 1) (offset + length (filled own.bytes)) others head fits plain.1 rise.1 later next.0 next.1)
+          later_stands n file prefix offset own others isnt.0 (head_stands n file (prefix ++ filled own.bytes) (own.tag + 1) (offset + length (filled own.bytes)) others head fits plain.1 rise.1 later next.0 next.1)
     ]

@@ -10,14 +10,14 @@ use Rattle.sfnt_write.specs.Steps.{tables_sum}
 use Rattle.sfnt_write.specs.Tables.{Slice}
 
 -- whole words first
-pub sum_append : (front rest : List ℕ) → length front % 4 ≡ 0 → word_sum (front ++ rest) ≡ word_sum front + word_sum rest
+pub sum_append : (prefix rest : List ℕ) → length prefix % 4 ≡ 0 → word_sum (prefix ++ rest) ≡ word_sum prefix + word_sum rest
 sum_append [] rest whole = sym (zero-add (word_sum rest))
 sum_append (a ∷ []) rest whole = absurd (omega arith)
 sum_append (a ∷ b ∷ []) rest whole = absurd (omega arith)
 sum_append (a ∷ b ∷ c ∷ []) rest whole = absurd (omega arith)
-sum_append (a ∷ b ∷ c ∷ d ∷ front) rest whole =
-    ap (λ (n : ℕ). from_be_bytes w32 (a ∷ b ∷ c ∷ d ∷ []) + n) (sum_append front rest (omega arith))
-    ∙ sym (add_assoc (from_be_bytes w32 (a ∷ b ∷ c ∷ d ∷ [])) (word_sum front) (word_sum rest))
+sum_append (a ∷ b ∷ c ∷ d ∷ prefix) rest whole =
+    ap (λ (n : ℕ). from_be_bytes w32 (a ∷ b ∷ c ∷ d ∷ []) + n) (sum_append prefix rest (omega arith))
+    ∙ sym (add_assoc (from_be_bytes w32 (a ∷ b ∷ c ∷ d ∷ [])) (word_sum prefix) (word_sum rest))
 
 -- zeros add nothing
 pub sum_filled : (bytes : List ℕ) → word_sum (filled bytes) ≡ word_sum bytes
@@ -46,6 +46,6 @@ sum_each (own ∷ others) =
     ∙ sym (sum_by-cons (λ (own : Slice). word_sum own.bytes) own others)
 
 -- all tables, each filled, after whole words
-pub sum_of_tables : (front : List ℕ) (tables : List Slice) → length front % 4 ≡ 0 → word_sum (front ++ concat (map (λ own. filled own.bytes) tables)) ≡ word_sum front + tables_sum tables
-sum_of_tables front tables whole =
-    sum_append front (concat (map (λ own. filled own.bytes) tables)) whole ∙ ap (λ (n : ℕ). word_sum front + n) (sum_each tables)
+pub sum_of_tables : (prefix : List ℕ) (tables : List Slice) → length prefix % 4 ≡ 0 → word_sum (prefix ++ concat (map (λ own. filled own.bytes) tables)) ≡ word_sum prefix + tables_sum tables
+sum_of_tables prefix tables whole =
+    sum_append prefix (concat (map (λ own. filled own.bytes) tables)) whole ∙ ap (λ (n : ℕ). word_sum prefix + n) (sum_each tables)

@@ -5,8 +5,8 @@ use Rattle.sfnt_write.specs.FontFile.{HEAD, IsFontFile, table_in}
 use Rattle.sfnt_write.specs.Layout.{with_adjustment}
 use Rattle.sfnt_write.specs.Tables.{Slice, bytes_of}
 
--- It is a font file, the table of each tag is the one that was given, and there is none where none was given; of head
--- the adjustment is another.
+-- It is a font file; its table of each tag is the one that was given, head but for the adjustment, and there is none
+-- where none was given.
 pub record HoldsTables (tables : List Slice) (file : List ℕ) : Type 0 where
   pub is_font : IsFontFile file
   pub others : (tag : ℕ) → tag ≢ HEAD → table_in file tag ≡ bytes_of tag tables
