@@ -48,9 +48,10 @@ records_fit : (offset : ℕ) (names : List (ℕ × List ℕ)) → AllByRecursion
 records_fit offset [] each small = tt
 records_fit offset (own ∷ names) each small =
     let size = text_size own.1 in
-    let total = sum_by-cons size_of own names in
-    (record { platform = omega arith; encoding = omega arith; language = omega arith; id = each.0.id; size = omega (arith, size, total, small); offset = omega (arith, small) },
-    records_fit (offset + length (text_bytes own.1)) names each.1 (omega (arith, size, total, small)))
+    let total = sum_by-cons size_of own names in (
+      record { platform = omega arith; encoding = omega arith; language = omega arith; id = each.0.id; size = omega (arith, size, total, small); offset = omega (arith, small) },
+      records_fit (offset + length (text_bytes own.1)) names each.1 (omega (arith, size, total, small)),
+    )
 
 records_count : (offset : ℕ) (names : List (ℕ × List ℕ)) → length (name_records_from offset names) ≡ length names
 records_count offset [] = refl
@@ -99,7 +100,6 @@ name_back names are all =
     (ap (λ (b : List ℕ). names_from b own) storage ∙ texts_found (all_texts names) [] 0 names refl refl each)
 
 -- ---- one record on
-
 
 pub one_record_more : (old new whole : List ℕ) (offset next size : ℕ) (own : ℕ × List ℕ) (names others : List (ℕ × List ℕ)) → names ≡ own ∷ others
     → new ≡ old ++ name_record_bytes (record { platform = 3; encoding = 1; language = 0x0409; id = own.0; size = size; offset = offset }) → size ≡ 2 * utf16_length own.1 → next ≡ offset + size

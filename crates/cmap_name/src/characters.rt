@@ -23,6 +23,7 @@ const WINDOWS: u16 = 3;
 
 /// Of Windows the encoding of the first 65536 characters, and that of all.
 const BASIC: u16 = 1;
+
 const WHOLE: u16 = 10;
 
 /// The bytes of the table before its encoding records.

@@ -58,7 +58,11 @@ pub(crate) fn format_4_size(groups: usize) -> u32
 }
 
 // Appends the subtable of these runs in format 4.
-pub(crate) fn put_format_4(alloc: Global, out: &mut Vec<u8>, groups: &[Group]) -> Result<(), NoMemory>
+pub(crate) fn put_format_4(
+    alloc: Global,
+    out: &mut Vec<u8>,
+    groups: &[Group],
+) -> Result<(), NoMemory>
     requires few { length groups.now + 1 ≤ 8189 }
     requires basic { All FitsBasic groups.now }
     ensures { OnOk result (Appends (IsFormat4 groups.now) out.old.items out.new.items) }

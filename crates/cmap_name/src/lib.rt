@@ -3,10 +3,12 @@
 #![tactic(auto)]
 
 mod characters;
-mod format_4;
 mod format_12;
+mod format_4;
 mod groups;
 mod names;
+#[cfg(test)]
+mod tests;
 mod utf16;
 
 pub use characters::cmap;

@@ -1,4 +1,4 @@
-ghost use Rattle.std.specs.Prelude.{◌≡◌, ◌+◌, ◌*◌, ◌≤◌, ◌++◌, [], ◌∷◌, length, All, IfOk, OnOk, Some};
+ghost use Rattle.std.specs.Prelude.{◌≡◌, ◌+◌, ◌*◌, ◌<◌, ◌≤◌, ◌^◌, ◌++◌, [], ◌∷◌, length, All, IfOk, OnOk, Some};
 ghost use Rattle.be_bytes.specs.declared.field.Field.TheVariants.{Uint16};
 ghost use Rattle.std.specs.List.{flat_map, sum_by};
 ghost use Rattle.be_bytes.specs.Fields.{fields_bytes};
@@ -22,7 +22,9 @@ const RECORD: u16 = 12;
 
 /// The platform of Windows, of it the encoding of Unicode, and English.
 const WINDOWS: u16 = 3;
+
 const UNICODE: u16 = 1;
+
 const ENGLISH: u16 = 0x0409;
 
 /// The table of the names (OpenType, "name"), each by its id with its text: at most 1000, whose ids rise and whose texts
@@ -68,7 +70,8 @@ fn put_records(out: &mut Vec<u8>, names: &[(u16, Name)]) -> Result<(), NoMemory>
 // The fields of a record.
 #[tactic(auto, unfolding(crate::specs::NameLayout::name_fields))]
 fn record(id: u16, size: u16, offset: u16) -> [Field; 6]
-    ensures { result ≡ name_fields (record { platform = 3; encoding = 1; language = 0x0409; id = id; size = size; offset = offset }) }
+    ensures value { result ≡ name_fields (record { platform = 3; encoding = 1; language = 0x0409; id = id; size = size; offset = offset }) }
+    ensures fits { id < 2 ^ 16 }
 {
     [
         // platformID, encodingID, languageID

@@ -13,6 +13,7 @@ const SUPPLEMENTARY: u32 = 0x10000;
 
 /// The first surrogate of those that begin a pair, and of those that end one.
 const HIGH: u16 = 0xD800;
+
 const LOW: u16 = 0xDC00;
 
 // Appends a text in UTF-16, big-endian.
