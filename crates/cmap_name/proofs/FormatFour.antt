@@ -1,13 +1,13 @@
 -- A subtable of format 4 is read back as it was written, whatever follows, and gives the glyphs that its runs give.
 use Rattle.std.proofs.Common.{◌≡◌, ℕ, ◌+◌, ◌*◌, ◌-◌, ◌/◌, ◌%◌, ◌^◌, ◌≤◌, ◌<◌, Bool, true, false, ◌&&◌, List, [], ◌∷◌, ◌++◌, length, length-append, map, drop, Option, Some, refl, sym, ap, ◌∙◌, append_assoc, arith}
-use Rattle.std.proofs.lemmas.Bool.{leb-false, leb-true}
+use Rattle.std.proofs.lemmas.Bool.{leb-true}
 use Rattle.std.proofs.lemmas.List.{append-nil, drop_at, length-map}
 use Rattle.std.specs.Prelude.{if◌then◌else◌, nat_le}
 use Rattle.std.specs.List.{AllByRecursion, flat_map}
 use Rattle.be_bytes.specs.Fields.{fields_bytes}
 use Rattle.be_bytes.specs.Reading.{prefix_of, records, uint16}
 use Rattle.be_bytes.proofs.FieldLemmas.{uint16-field}
-use Rattle.be_bytes.proofs.RecordLemmas.{ComesBack, each_of, prefix_at, records_back, records_size}
+use Rattle.be_bytes.proofs.RecordLemmas.{ComesBack, each_of, prefix_at, records_back}
 use Rattle.search_fields.specs.declared.SearchFields.{SearchFields}
 use Rattle.cmap_name.specs.CharacterLayout.{IsFormat4, array_bytes, format_4_bytes, format_4_fields, item_of, last_segment, segment_of, segments_of, word}
 use Rattle.cmap_name.specs.Characters.{Segments, glyph_in, glyph_in_groups, glyph_in_segments, segments_in, zipped}

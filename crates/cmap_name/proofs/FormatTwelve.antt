@@ -1,11 +1,11 @@
 -- A subtable of format 12 is read back as it was written, whatever follows.
-use Rattle.std.proofs.Common.{◌≡◌, ℕ, ◌+◌, ◌*◌, ◌-◌, ◌^◌, ◌≤◌, ◌<◌, List, [], ◌∷◌, ◌++◌, length, length-append, drop, Some, refl, sym, ap, ◌∙◌, arith}
+use Rattle.std.proofs.Common.{◌≡◌, ℕ, ◌+◌, ◌*◌, ◌≤◌, List, [], ◌∷◌, ◌++◌, length, drop, Some, refl, sym, ap, ◌∙◌, arith}
 use Rattle.std.proofs.lemmas.List.{append-nil}
 use Rattle.std.specs.List.{AllByRecursion, flat_map}
 use Rattle.be_bytes.specs.Fields.{fields_bytes}
 use Rattle.be_bytes.specs.Reading.{prefix_of, records, uint16, uint32}
-use Rattle.be_bytes.specs.declared.field.Field.TheVariants.{Uint16, Uint32}
-use Rattle.be_bytes.proofs.FieldLemmas.{uint16-field, uint32-field}
+use Rattle.be_bytes.specs.declared.field.Field.TheVariants.{Uint32}
+use Rattle.be_bytes.proofs.FieldLemmas.{uint32-field}
 use Rattle.be_bytes.proofs.RecordLemmas.{ComesBack, each_of, prefix_at, records_back, records_size}
 use Rattle.cmap_name.specs.CharacterLayout.{format_12_bytes, format_12_fields, group_bytes, group_fields}
 use Rattle.cmap_name.specs.Characters.{glyph_in, glyph_in_groups, group_in, groups_in}

@@ -1,8 +1,8 @@
 -- The whole character map gives each character's glyph, and its subtables agree.
-use Rattle.std.proofs.Common.{◌≡◌, ℕ, ◌+◌, ◌*◌, ◌^◌, ◌≤◌, ◌<◌, Bool, true, false, not, ◌||◌, List, [], ◌∷◌, ◌++◌, length, drop, Option, Some, None, refl, sym, ap, subst, ◌∙◌, arith}
+use Rattle.std.proofs.Common.{◌≡◌, ℕ, ◌+◌, ◌^◌, ◌≤◌, ◌<◌, Bool, true, false, not, ◌||◌, List, [], ◌∷◌, ◌++◌, length, drop, Option, Some, None, refl, sym, ap, subst, ◌∙◌, arith}
 use Rattle.std.proofs.lemmas.List.Elements.{recursion_from_All}
 use Rattle.std.proofs.lemmas.List.{drop-drop, drop_at}
-use Rattle.std.specs.Prelude.{if◌then◌else◌, IsTrue, nat_eq, nat_le}
+use Rattle.std.specs.Prelude.{if◌then◌else◌, IsTrue}
 use Rattle.std.specs.List.{AllByRecursion, flat_map, list_any}
 use Rattle.basics.proofs.Optional.{same_some}
 use Rattle.be_bytes.specs.Fields.{fields_bytes}
@@ -10,7 +10,7 @@ use Rattle.be_bytes.specs.Reading.{records, uint16, uint32}
 use Rattle.be_bytes.specs.declared.field.Field.TheVariants.{Uint16, Uint32}
 use Rattle.be_bytes.proofs.FieldLemmas.{uint16-field, uint32-field}
 use Rattle.be_bytes.proofs.RecordLemmas.{ComesBack, each_of, records_back}
-use Rattle.cmap_name.specs.CharacterLayout.{IsCharacterMap, IsFormat4, cmap_bytes, encoding_bytes, encoding_fields, format_12_bytes, has_basic, has_whole}
+use Rattle.cmap_name.specs.CharacterLayout.{IsCharacterMap, IsFormat4, cmap_bytes, encoding_bytes, encoding_fields, format_12_bytes, has_basic}
 use Rattle.cmap_name.specs.Characters.{Agree, EncodingRecord, encoding_record_in, encoding_records_in, glyph_by, glyph_in, glyph_of_character, offset_of, subtable_in}
 use Rattle.cmap_name.specs.Codes.{AreCodes, IsCharacter, glyph_of}
 use Rattle.cmap_name.specs.Steps.{FitsBasic, IsMapOf}

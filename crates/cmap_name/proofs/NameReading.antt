@@ -1,13 +1,11 @@
 -- The table of the names is read back as it was written.
-use Rattle.std.proofs.Common.{◌≡◌, ℕ, ◌+◌, ◌*◌, ◌^◌, ◌≤◌, ◌<◌, Bool, true, List, [], ◌∷◌, ◌++◌, length, length-append, drop, sum_by, get_or, take, Option, Some, refl, sym, ap, subst, ◌∙◌, append_assoc, arith}
-use Rattle.std.proofs.lemmas.List.{append-nil, drop-drop, drop_at}
+use Rattle.std.proofs.Common.{◌≡◌, ℕ, ◌+◌, ◌*◌, ◌^◌, ◌≤◌, ◌<◌, true, List, [], ◌∷◌, ◌++◌, length, length-append, drop, sum_by, Some, refl, sym, ap, ◌∙◌, append_assoc, arith}
+use Rattle.std.proofs.lemmas.List.{drop-drop, drop_at}
 use Rattle.std.proofs.lemmas.List.Elements.{recursion_from_All}
 use Rattle.std.proofs.lemmas.List.Sums.{sum_by-cons}
 use Rattle.std.specs.Prelude.{All}
 use Rattle.std.specs.List.{AllByRecursion, flat_map}
-use Rattle.be_bytes.specs.Fields.{fields_bytes}
 use Rattle.be_bytes.specs.Reading.{prefix_of, records, uint16}
-use Rattle.be_bytes.specs.declared.field.Field.TheVariants.{Uint16}
 use Rattle.be_bytes.proofs.FieldLemmas.{uint16-field}
 use Rattle.be_bytes.proofs.RecordLemmas.{ComesBack, each_of, prefix_at, records_back, records_size}
 use Rattle.font_text.specs.Utf16.{utf16_length}

@@ -1,6 +1,6 @@
 -- What the table of the names means (OpenType, "name", version 0). A reading gives those of Windows (platform 3) in
 -- Unicode (encoding 1) and English (language 0x0409), each with its id, in the order of their records.
-use Rattle.std.specs.Prelude.{◌≡◌, ℕ, ◌+◌, ◌*◌, ◌/◌, ◌%◌, ◌≤◌, Bool, ◌&&◌, List, [], ◌∷◌, length, drop, Option, Some, None, if◌then◌else◌, nat_eq, nat_le}
+use Rattle.std.specs.Prelude.{ℕ, ◌*◌, ◌/◌, ◌%◌, ◌≤◌, Bool, ◌&&◌, List, [], ◌∷◌, length, drop, Option, Some, None, if◌then◌else◌, nat_eq}
 use Rattle.std.specs.List.{sum_by}
 use Rattle.std.specs.Str.{encode_utf8_all}
 use Rattle.basics.specs.Optional.{◌>>=◌}

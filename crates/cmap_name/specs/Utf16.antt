@@ -2,7 +2,7 @@
 use Rattle.std.specs.Prelude.{ℕ, ◌+◌, ◌-◌, ◌*◌, ◌/◌, ◌%◌, Bool, ◌&&◌, List, [], ◌∷◌, Option, Some, None, if◌then◌else◌, nat_le, nat_lt}
 use Rattle.std.specs.List.{flat_map}
 use Rattle.std.specs.Str.{chars}
-use Rattle.basics.specs.Optional.{◌>>=◌, with_prefix}
+use Rattle.basics.specs.Optional.{with_prefix}
 
 -- a character below 0x10000 is a unit; one from there on is two surrogates, which have its upper and its lower ten bits
 abbrev pub units_of : ℕ → List ℕ

@@ -1,4 +1,4 @@
-use Rattle.std.proofs.Common.{◌≡◌, ◌++◌, length, take, drop}
+use Rattle.std.proofs.Common.{◌≡◌, ◌++◌, take, drop}
 use Rattle.cmap_name.specs.Groups.{basic_codes}
 use Rattle.cmap_name.proofs.characters.basic_count.Given as goal
 

@@ -1,11 +1,11 @@
-use Rattle.std.proofs.Common.{◌≡◌, ℕ, ◌+◌, ◌∷◌, [], ◌≤◌, ◌<◌, length, All, Some, true, false, List, sym, ap, subst, ◌∙◌, arith}
+use Rattle.std.proofs.Common.{◌≡◌, ℕ, ◌+◌, ◌∷◌, [], ◌≤◌, length, All, Some, true, false, List, sym, ap, subst, ◌∙◌, arith}
 use Rattle.std.proofs.lemmas.Bool.{le-leb, lt-leb}
 use Rattle.std.proofs.lemmas.List.Elements.{All-from_recursion, recursion_from_All}
 use Rattle.std.proofs.lemmas.Result.{IfOk-weaker}
-use Rattle.std.specs.List.{AllByRecursion, list_any}
+use Rattle.std.specs.List.{list_any}
 use Rattle.cmap_name.specs.CharacterLayout.{IsCharacterMap, IsFormat4, cmap_bytes, format_12_bytes, has_basic}
 use Rattle.cmap_name.specs.Characters.{Agree, glyph_of_character}
-use Rattle.cmap_name.specs.Codes.{AreCodes, glyph_of}
+use Rattle.cmap_name.specs.Codes.{glyph_of}
 use Rattle.cmap_name.specs.Groups.{FitsGroup, basic_codes, exceeds, groups_of}
 use Rattle.cmap_name.specs.Steps.{FitsBasic, IsMapOf}
 use Rattle.cmap_name.specs.declared.groups.Group.{Group}

@@ -1,4 +1,4 @@
-use Rattle.std.proofs.Common.{◌≡◌, ◌+◌, ◌*◌, ◌++◌, ℕ, List, ◌∷◌, drop, length, All, sym, ap, subst, refl, ◌∙◌, arith}
+use Rattle.std.proofs.Common.{◌≡◌, ◌+◌, ◌*◌, ◌++◌, ℕ, List, ◌∷◌, drop, All, sym, ap, subst, refl, ◌∙◌, arith}
 use Rattle.std.proofs.lemmas.List.{take_all, drop_more}
 use Rattle.std.proofs.lemmas.List.Elements.{All-more}
 use Rattle.std.specs.Str.{IsUtf8}
