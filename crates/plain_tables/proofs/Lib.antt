@@ -1,0 +1,7 @@
+pub mod CodeEnds
+pub mod FieldReading
+pub mod FieldRanges
+pub mod GlyphLemmas
+pub mod MeasureSteps
+pub mod MetricReading
+pub mod NameReading

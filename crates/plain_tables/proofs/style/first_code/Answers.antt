@@ -1,0 +1,5 @@
+use Rattle.plain_tables.proofs.style.first_code.Goals as goal
+
+pub returns : goal.returns
+returns c = ?
+
