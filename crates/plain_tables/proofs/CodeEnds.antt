@@ -1,6 +1,7 @@
 -- Of codes that rise the first is the least, and the last the greatest.
-use Rattle.std.proofs.Common.{◌≡◌, ℕ, ◌+◌, ◌-◌, ◌≤◌, ℤ, pos, List, [], ◌∷◌, length, get_or, fold, refl, ap, ◌∙◌, arith}
+use Rattle.std.proofs.Common.{◌≡◌, ℕ, zero, suc, ◌+◌, ◌-◌, ◌≤◌, ℤ, pos, false, List, [], ◌∷◌, length, get_or, fold, refl, ap, ◌∙◌, arith}
 use Rattle.std.proofs.lemmas.Int.{clamps, ints}
+use Rattle.std.specs.Prelude.{◌==◌}
 use Rattle.std.specs.Int.{int_max, int_min}
 use Rattle.glyf_loca.specs.Bounds.{greatest, least}
 use Rattle.plain_tables.specs.Conditions.{CodesRise}
@@ -33,3 +34,8 @@ greatest_code [] d some rise = absurd (omega arith)
 greatest_code (own ∷ codes) d some rise =
     let before : length codes ≡ length (own ∷ codes) - 1 = omega arith in
     greatest_last own codes d rise.1 ∙ ap (λ (n : ℕ). pos (get_or (own ∷ codes) n d).0) before
+
+-- a test that a list isn't empty
+pub not_empty : (n : ℕ) → false ≡ (n == 0) → 1 ≤ n
+not_empty zero test = absurd (cc)
+not_empty (suc n) test = omega arith

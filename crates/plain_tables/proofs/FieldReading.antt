@@ -89,3 +89,25 @@ table_read fields rest order fit =
 -- a table's fields alone
 pub whole_read : (fields : List (ℕ × Field)) → follow 0 fields ≡ true → AllByRecursion (λ own. Fits own.1) fields → AreRead fields (table_bytes fields)
 whole_read fields order fit = subst (AreRead fields) (append-nil (table_bytes fields)) (table_read fields [] order fit)
+
+-- ---- their size
+
+abbrev pub span : List (ℕ × Field) → ℕ
+span [] = 0
+span (own ∷ fields) = size_of own.1 + span fields
+
+pub table_size : (fields : List (ℕ × Field)) → AllByRecursion (λ own. Fits own.1) fields → length (table_bytes fields) ≡ span fields
+table_size [] fit = refl
+table_size (own ∷ fields) fit =
+    omega (arith, length-append (field_bytes own.1) (table_bytes fields), field_size own.1 fit.0, table_size fields fit.1)
+
+-- ---- two lists of fields
+
+pub table_append : (first second : List (ℕ × Field)) → table_bytes first ++ table_bytes second ≡ table_bytes (first ++ second)
+table_append [] second = refl
+table_append (own ∷ first) second =
+    append_assoc (field_bytes own.1) (table_bytes first) (table_bytes second) ∙ ap (λ (bytes : List ℕ). field_bytes own.1 ++ bytes) (table_append first second)
+
+pub fit_append : (first second : List (ℕ × Field)) → AllByRecursion (λ own. Fits own.1) first → AllByRecursion (λ own. Fits own.1) second → AllByRecursion (λ own. Fits own.1) (first ++ second)
+fit_append [] second a b = b
+fit_append (own ∷ first) second a b = (a.0, fit_append first second a.1 b)

@@ -1,7 +1,10 @@
 -- The glyphs of a font, one for each name.
-use Rattle.std.proofs.Common.{◌≡◌, ℕ, zero, suc, ◌<◌, ℤ, List, [], ◌∷◌, length, get_or, refl, sym, ap, subst, arith}
+use Rattle.std.proofs.Common.{◌≡◌, ℕ, zero, suc, ◌<◌, ℤ, pos, List, [], ◌∷◌, length, get_or, refl, sym, ap, subst, ◌∙◌, arith, to_z, of_z}
+use Rattle.std.proofs.lemmas.Int.{ints}
+use Rattle.std.proofs.lemmas.List.{get_or_default}
 use Rattle.std.proofs.lemmas.List.Elements.{All-get_or, recursion_from_All}
 use Rattle.std.specs.Prelude.{All}
+use Rattle.std.specs.Int.{w32}
 use Rattle.std.specs.List.{AllByRecursion}
 use Rattle.glyf_loca.specs.declared.extent.Bounds.{Bounds}
 use Rattle.plain_tables.specs.Conditions.{AreBoundsWithin, AreFacts, IsAdvanceWithin, IsGlyphWithin}
@@ -35,6 +38,24 @@ glyph_there (first ∷ advances) (second ∷ bounds) [] i advance own pair d p q
 glyph_there (first ∷ advances) (second ∷ bounds) (third ∷ lengths) zero advance own pair d p q r a b c = same_glyph advance first own second pair third a b c
 glyph_there (first ∷ advances) (second ∷ bounds) (third ∷ lengths) (suc i) advance own pair d p q r a b c =
     glyph_there advances bounds lengths i advance own pair d (omega arith) (omega arith) (omega arith) a b c
+
+-- the glyph that is read from the lists
+pub glyph_read : (facts : Facts) (i : ℕ) (advances : List ℤ) (bounds : List Bounds) (lengths : List (ℕ × ℕ)) (none : Bounds) (d : Glyph) → AreFacts facts → i < length facts.names → advances ≡ facts.advances → bounds ≡ facts.bounds → lengths ≡ facts.lengths
+    → (let glyph : Glyph = record { advance = to_z w32 (of_z w32 (get_or advances i (pos 0))); bounds = get_or bounds i none; points = (get_or lengths i (0, 0)).0; contours = (get_or lengths i (0, 0)).1 } in glyph ≡ get_or (glyphs_of facts) i d)
+glyph_read facts i advances bounds lengths none d own within advances_are bounds_are lengths_are =
+    let in_advances : i < length facts.advances = omega (arith, own.advance_each) in
+    let in_bounds : i < length facts.bounds = omega (arith, own.bounds_each) in
+    let in_lengths : i < length facts.lengths = omega (arith, own.lengths_each) in
+    let advance : ℤ = to_z w32 (of_z w32 (get_or advances i (pos 0))) in
+    let box : Bounds = get_or bounds i none in
+    let pair : ℕ × ℕ = get_or lengths i (0, 0) in
+    let read : get_or advances i (pos 0) ≡ get_or facts.advances i (pos 0) = ap (λ (xs : List ℤ). get_or xs i (pos 0)) advances_are in
+    let limits : IsAdvanceWithin (get_or facts.advances i (pos 0)) = All-get_or IsAdvanceWithin facts.advances i (pos 0) in_advances own.advances in
+    let plain : to_z w32 (of_z w32 (get_or advances i (pos 0))) ≡ get_or advances i (pos 0) = omega (arith, ints, limits.least, limits.greatest, read) in
+    glyph_there facts.advances facts.bounds facts.lengths i advance box pair d in_advances in_bounds in_lengths
+    (plain ∙ read ∙ get_or_default facts.advances i (pos 0) advance in_advances)
+    (ap (λ (xs : List Bounds). get_or xs i none) bounds_are ∙ get_or_default facts.bounds i none box in_bounds)
+    (ap (λ (xs : List (ℕ × ℕ)). get_or xs i (0, 0)) lengths_are ∙ get_or_default facts.lengths i (0, 0) pair in_lengths)
 
 -- what holds of each item holds of the one that is read
 pub held : {A : Type 0} (P : A → Type 0) (xs : List A) (i : ℕ) (x : A) → i < length xs → All P xs → x ≡ get_or xs i x → P x

@@ -1,4 +1,5 @@
 pub mod CodeEnds
+pub mod ExtentRanges
 pub mod FieldReading
 pub mod FieldRanges
 pub mod GlyphLemmas

@@ -4,19 +4,19 @@ use Rattle.be_bytes.specs.declared.field.Field.{Field}
 use Rattle.be_bytes.specs.declared.field.Field.TheVariants.{Int16, Int32, Int64, Uint16, Uint32}
 use Rattle.fixpoint.specs.Rounding.{round_up}
 use Rattle.fontinfo.specs.declared.info.Info.{Info}
+use Rattle.glyf_loca.specs.declared.extent.Bounds.{Bounds}
 use Rattle.plain_tables.specs.FixedFields.{word}
 use Rattle.plain_tables.specs.GlyphMeasures.{counts_of, extent_of, glyphs_of}
 use Rattle.plain_tables.specs.declared.facts.Facts.{Facts}
 use Rattle.plain_tables.specs.declared.measures.Counts.{Counts}
-use Rattle.plain_tables.specs.declared.measures.Extent.{Extent}
 
 -- the version as a Fixed, its minor number in thousandths
 unfoldable pub revision_of : Info → ℤ
 revision_of info = (info.major *ℤ pos 65536) +ℤ round_up (info.minor *ℤ pos 65536) 1000
 
 -- version 1.0
-unfoldable pub head_fields : Info → Extent → Bool → List (ℕ × Field)
-head_fields info extent long =
+unfoldable pub head_fields : Info → Bounds → Bool → List (ℕ × Field)
+head_fields info bounds long =
     -- majorVersion, minorVersion, fontRevision
     (0, Uint16 1) ∷ (2, Uint16 0) ∷ (4, Int32 (revision_of info))
     -- checksumAdjustment, magicNumber
@@ -26,14 +26,14 @@ head_fields info extent long =
     -- unitsPerEm, created, modified
     ∷ (18, word info.units) ∷ (20, Int64 (pos 0)) ∷ (28, Int64 (pos 0))
     -- xMin, yMin, xMax, yMax
-    ∷ (36, Int16 extent.x_min) ∷ (38, Int16 extent.y_min) ∷ (40, Int16 extent.x_max) ∷ (42, Int16 extent.y_max)
+    ∷ (36, Int16 bounds.x_min) ∷ (38, Int16 bounds.y_min) ∷ (40, Int16 bounds.x_max) ∷ (42, Int16 bounds.y_max)
     -- macStyle, lowestRecPPEM, fontDirectionHint
     ∷ (44, Uint16 0) ∷ (46, Uint16 6) ∷ (48, Int16 (pos 2))
     -- indexToLocFormat, glyphDataFormat
     ∷ (50, Int16 (if long then pos 1 else pos 0)) ∷ (52, Int16 (pos 0)) ∷ []
 
 abbrev pub head_of : Facts → List (ℕ × Field)
-head_of facts = head_fields facts.info (extent_of (glyphs_of facts)) facts.long
+head_of facts = head_fields facts.info (extent_of (glyphs_of facts)).bounds facts.long
 
 -- version 1.0, of so many glyphs
 unfoldable pub maxp_fields : ℕ → Counts → List (ℕ × Field)

@@ -40,16 +40,17 @@ abbrev pub are_some : List Glyph → Bool
 are_some [] = false
 are_some (glyph ∷ glyphs) = true
 
--- the least and the greatest bounds, and the least right bearing; 0 each where there is no glyph
-abbrev pub extent_from : List Glyph → Extent
-extent_from glyphs = record {
-  some = are_some glyphs;
+-- the box round all their points, and the least right bearing; 0 each where there is no glyph
+abbrev pub bounds_from : List Glyph → Bounds
+bounds_from glyphs = record {
   x_min = least (map (λ glyph. glyph.bounds.x_min) glyphs);
   y_min = least (map (λ glyph. glyph.bounds.y_min) glyphs);
   x_max = greatest (map (λ glyph. glyph.bounds.x_max) glyphs);
   y_max = greatest (map (λ glyph. glyph.bounds.y_max) glyphs);
-  right = least (map right_bearing glyphs);
 }
+
+abbrev pub extent_from : List Glyph → Extent
+extent_from glyphs = record { some = are_some glyphs; bounds = bounds_from glyphs; right = least (map right_bearing glyphs) }
 
 unfoldable pub extent_of : List Glyph → Extent
 extent_of glyphs = extent_from (drawn glyphs)

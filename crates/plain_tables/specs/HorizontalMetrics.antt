@@ -24,7 +24,7 @@ hhea_fields info extent widest glyphs =
     -- ascender, descender, lineGap
     ∷ (4, Int16 info.hhea_ascender) ∷ (6, Int16 info.hhea_descender) ∷ (8, Int16 info.hhea_gap)
     -- advanceWidthMax, minLeftSideBearing, minRightSideBearing, xMaxExtent
-    ∷ (10, word widest) ∷ (12, Int16 extent.x_min) ∷ (14, Int16 extent.right) ∷ (16, Int16 extent.x_max)
+    ∷ (10, word widest) ∷ (12, Int16 extent.bounds.x_min) ∷ (14, Int16 extent.right) ∷ (16, Int16 extent.bounds.x_max)
     -- caretSlopeRise, caretSlopeRun, caretOffset
     ∷ (18, Int16 (pos 1)) ∷ (20, Int16 (pos 0)) ∷ (22, Int16 (pos 0))
     -- four reserved, metricDataFormat, numberOfHMetrics

@@ -7,10 +7,10 @@ use Rattle.be_bytes.specs.declared.field.Field.TheVariants.{Int16, Tag, Uint8, U
 use Rattle.fixpoint.specs.Rounding.{round_up}
 use Rattle.fontinfo.specs.declared.info.Info.{Info}
 use Rattle.glyf_loca.specs.Bounds.{greatest, least}
+use Rattle.glyf_loca.specs.declared.extent.Bounds.{Bounds}
 use Rattle.plain_tables.specs.FixedFields.{word}
 use Rattle.plain_tables.specs.GlyphMeasures.{average_of, extent_of, glyphs_of, widths_of}
 use Rattle.plain_tables.specs.declared.facts.Facts.{Facts}
-use Rattle.plain_tables.specs.declared.measures.Extent.{Extent}
 
 -- ---- values
 
@@ -51,8 +51,8 @@ class_fields info average =
     ∷ (32, Uint8 0) ∷ (33, Uint8 0) ∷ (34, Uint8 0) ∷ (35, Uint8 0) ∷ (36, Uint8 0) ∷ (37, Uint8 0) ∷ (38, Uint8 0) ∷ (39, Uint8 0) ∷ (40, Uint8 0) ∷ (41, Uint8 0) ∷ []
 
 -- what the font covers, and its lines
-unfoldable pub line_fields : Info → Extent → List (ℕ × ℕ) → Bool → List (ℕ × Field)
-line_fields info extent codes substitutes =
+unfoldable pub line_fields : Info → Bounds → List (ℕ × ℕ) → Bool → List (ℕ × Field)
+line_fields info bounds codes substitutes =
     -- ulUnicodeRange1, ulUnicodeRange2, ulUnicodeRange3, ulUnicodeRange4
     (42, Uint32 0) ∷ (46, Uint32 0) ∷ (50, Uint32 0) ∷ (54, Uint32 0)
     -- achVendID; fsSelection: regular
@@ -62,7 +62,7 @@ line_fields info extent codes substitutes =
     -- sTypoAscender, sTypoDescender, sTypoLineGap
     ∷ (68, Int16 info.typo_ascender) ∷ (70, Int16 info.typo_descender) ∷ (72, Int16 info.typo_gap)
     -- usWinAscent, usWinDescent
-    ∷ (74, word (clipped info.win_ascent extent.y_max)) ∷ (76, word (clipped info.win_descent (neg_ℤ extent.y_min)))
+    ∷ (74, word (clipped info.win_ascent bounds.y_max)) ∷ (76, word (clipped info.win_descent (neg_ℤ bounds.y_min)))
     -- ulCodePageRange1, ulCodePageRange2
     ∷ (78, Uint32 0) ∷ (82, Uint32 0)
     -- sxHeight, sCapHeight
@@ -70,8 +70,8 @@ line_fields info extent codes substitutes =
     -- usDefaultChar, usBreakChar, usMaxContext
     ∷ (90, Uint16 0) ∷ (92, Uint16 32) ∷ (94, Uint16 (if substitutes then 1 else 0)) ∷ []
 
-abbrev pub os2_fields : Info → ℤ → Extent → List (ℕ × ℕ) → Bool → List (ℕ × Field)
-os2_fields info average extent codes substitutes = class_fields info average ++ line_fields info extent codes substitutes
+abbrev pub os2_fields : Info → ℤ → Bounds → List (ℕ × ℕ) → Bool → List (ℕ × Field)
+os2_fields info average bounds codes substitutes = class_fields info average ++ line_fields info bounds codes substitutes
 
 abbrev pub os2_of : Facts → List (ℕ × Field)
-os2_of facts = os2_fields facts.info (average_of (widths_of (glyphs_of facts))) (extent_of (glyphs_of facts)) facts.codes facts.substitutes
+os2_of facts = os2_fields facts.info (average_of (widths_of (glyphs_of facts))) (extent_of (glyphs_of facts)).bounds facts.codes facts.substitutes

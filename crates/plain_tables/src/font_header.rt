@@ -6,12 +6,13 @@ ghost use Rattle.plain_tables.specs.FixedFields.{AreRead, table_bytes, values_of
 ghost use Rattle.plain_tables.specs.FontHeader.{head_fields, head_of, maxp_fields, maxp_of, revision_of};
 
 use crate::facts::Facts;
-use crate::measures::{Counts, Extent, measured};
+use crate::measures::{Counts, measured};
 use crate::values::{table, word};
 use basics::NoMemory;
 use be_bytes::Field::{self, Int16, Int32, Int64, Uint16, Uint32};
 use fixpoint::divide_up;
 use fontinfo::Info;
+use glyf_loca::Bounds;
 use std::alloc::Global;
 
 /// The table of the whole font (OpenType, "head", version 1.0), 54 bytes: its version and units, the bounds over all
@@ -25,17 +26,16 @@ pub fn head(alloc: Global, facts: &Facts) -> Result<Vec<u8>, NoMemory>
     ensures adjustment { IfOk result (λ bytes. take 4 (drop 8 bytes.items) ≡ 0 ∷ 0 ∷ 0 ∷ 0 ∷ []) }
 {
     let measures = measured(facts);
-    table(
-        alloc,
-        &head_fields(&facts.info, measures.extent, facts.long),
-    )
+    let fields = head_fields(&facts.info, measures.extent.bounds, facts.long);
+    let bytes = table(alloc, &fields)?;
+    Ok(bytes)
 }
 
 // The fields of `head`.
 #[tactic(auto, unfolding(crate::specs::FontHeader::head_fields))]
-fn head_fields(info: &Info, extent: Extent, long: bool) -> [Field; 18]
+fn head_fields(info: &Info, bounds: Bounds, long: bool) -> [Field; 18]
     requires { AreNumbersWithin info.now }
-    ensures { result ≡ values_of (head_fields info.now extent long) }
+    ensures { result ≡ values_of (head_fields info.now bounds long) }
 {
     [
         // majorVersion, minorVersion, fontRevision
@@ -51,10 +51,10 @@ fn head_fields(info: &Info, extent: Extent, long: bool) -> [Field; 18]
         Int64(0),
         Int64(0),
         // xMin, yMin, xMax, yMax
-        Int16(extent.x_min),
-        Int16(extent.y_min),
-        Int16(extent.x_max),
-        Int16(extent.y_max),
+        Int16(bounds.x_min),
+        Int16(bounds.y_min),
+        Int16(bounds.x_max),
+        Int16(bounds.y_max),
         // macStyle, lowestRecPPEM, fontDirectionHint
         Uint16(0),
         Uint16(6),
@@ -84,7 +84,8 @@ pub fn maxp(alloc: Global, facts: &Facts) -> Result<Vec<u8>, NoMemory>
 {
     let measures = measured(facts);
     let glyphs = facts.names.len() as u16;
-    table(alloc, &maxp_fields(glyphs, measures.counts))
+    let bytes = table(alloc, &maxp_fields(glyphs, measures.counts))?;
+    Ok(bytes)
 }
 
 // The fields of `maxp`.

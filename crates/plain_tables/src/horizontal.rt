@@ -26,10 +26,9 @@ pub fn hhea(alloc: Global, facts: &Facts) -> Result<Vec<u8>, NoMemory>
     let measures = measured(facts);
     let glyphs = facts.names.len() as u16;
     let widest = measures.widths.widest;
-    table(
-        alloc,
-        &hhea_fields(&facts.info, measures.extent, widest, glyphs),
-    )
+    let fields = hhea_fields(&facts.info, measures.extent, widest, glyphs);
+    let bytes = table(alloc, &fields)?;
+    Ok(bytes)
 }
 
 // The fields of `hhea`.
@@ -49,9 +48,9 @@ fn hhea_fields(info: &Info, extent: Extent, widest: i32, glyphs: u16) -> [Field;
         short(info.hhea_gap),
         // advanceWidthMax, minLeftSideBearing, minRightSideBearing, xMaxExtent
         word(widest),
-        Int16(extent.x_min),
+        Int16(extent.bounds.x_min),
         Int16(extent.right),
-        Int16(extent.x_max),
+        Int16(extent.bounds.x_max),
         // caretSlopeRise, caretSlopeRun, caretOffset
         Int16(1),
         Int16(0),

@@ -2,22 +2,21 @@ ghost use Rattle.std.specs.Prelude.{◌≡◌, ℕ, ◌+◌, ◌<◌, ◌≤◌,
 ghost use Rattle.std.specs.Int.{int_max, int_min};
 ghost use Rattle.plain_tables.specs.Conditions.{AreFacts, AreWidthsWithin, IsAdvanceWithin, IsGlyphWithin};
 ghost use Rattle.plain_tables.specs.GlyphMeasures.{average_of, counts_of, extent_of, glyphs_of, measures_of, right_bearing, widths_from};
-ghost use Rattle.plain_tables.specs.Ranges.{FitsCounts, FitsExtent};
+ghost use Rattle.plain_tables.specs.Ranges.{FitsCounts};
 ghost use Rattle.plain_tables.specs.declared.glyphs.Glyph.{Glyph};
 
 use crate::facts::Facts;
 use crate::glyphs::{Glyph, glyph_at};
 use fixpoint::divide_up;
+use glyf_loca::Bounds;
 
 /// The extremes of the glyphs that have contours, each 0 where there are none.
 #[derive(Clone, Copy)]
 pub(crate) struct Extent {
     /// Whether there are such glyphs.
     pub(crate) some: bool,
-    pub(crate) x_min: i16,
-    pub(crate) y_min: i16,
-    pub(crate) x_max: i16,
-    pub(crate) y_max: i16,
+    /// The box round all of them.
+    pub(crate) bounds: Bounds,
     /// The least right side bearing.
     pub(crate) right: i16,
 }
@@ -50,7 +49,6 @@ pub(crate) fn measured(facts: &Facts) -> Measures
     requires { AreFacts facts.now }
     ensures value { result ≡ measures_of (glyphs_of facts.now) }
     ensures within { AreWidthsWithin result.widths }
-    ensures extent_fits { FitsExtent result.extent }
     ensures counts_fit { FitsCounts result.counts }
 {
     let mut measures = none();
@@ -68,29 +66,32 @@ pub(crate) fn measured(facts: &Facts) -> Measures
 // The measures of no glyph.
 #[tactic(auto, unfolding(crate::specs::GlyphMeasures::counts_of, crate::specs::GlyphMeasures::extent_of, crate::specs::GlyphMeasures::widths_from))]
 fn none() -> Measures
-    ensures { result ≡ measures_of [] }
+    ensures value { result ≡ measures_of [] }
+    ensures within { AreWidthsWithin result.widths }
+    ensures count { result.widths.count ≡ 0 }
 {
-    let extent = Extent {
-        some: false,
+    let bounds = Bounds {
         x_min: 0,
         y_min: 0,
         x_max: 0,
         y_max: 0,
-        right: 0,
     };
     let widths = Widths {
         widest: 0,
         count: 0,
         sum: 0,
     };
-    let counts = Counts {
-        points: 0,
-        contours: 0,
-    };
     Measures {
-        extent,
+        extent: Extent {
+            some: false,
+            bounds,
+            right: 0,
+        },
         widths,
-        counts,
+        counts: Counts {
+            points: 0,
+            contours: 0,
+        },
     }
 }
 
@@ -102,46 +103,49 @@ fn extended(extent: Extent, glyph: Glyph) -> Extent
     if glyph.contours == 0 {
         return extent;
     }
-    let own = extent_at(glyph);
+    let right = right_bearing(glyph);
     if !extent.some {
-        return own;
+        return Extent {
+            some: true,
+            bounds: glyph.bounds,
+            right,
+        };
     }
-    joined(extent, own)
-}
-
-// The extent of a glyph with contours.
-fn extent_at(glyph: Glyph) -> Extent
-    requires { IsGlyphWithin glyph }
-    ensures { result ≡ record { some = true; x_min = glyph.bounds.x_min; y_min = glyph.bounds.y_min; x_max = glyph.bounds.x_max; y_max = glyph.bounds.y_max; right = right_bearing glyph } }
-{
-    let bounds = glyph.bounds;
     Extent {
         some: true,
-        x_min: bounds.x_min,
-        y_min: bounds.y_min,
-        x_max: bounds.x_max,
-        y_max: bounds.y_max,
-        right: (glyph.advance - i32::from(bounds.x_max)) as i16,
+        bounds: round_both(extent.bounds, glyph.bounds),
+        right: lesser(extent.right, right),
     }
 }
 
-// The extent of the glyphs of two.
-fn joined(first: Extent, second: Extent) -> Extent
-    ensures some { result.some ≡ true }
+// From the rightmost point of a glyph to its advance width.
+fn right_bearing(glyph: Glyph) -> i16
+    requires { IsGlyphWithin glyph }
+    ensures { result ≡ right_bearing glyph }
+{
+    (glyph.advance - i32::from(glyph.bounds.x_max)) as i16
+}
+
+// The box round two boxes.
+fn round_both(first: Bounds, second: Bounds) -> Bounds
     ensures x_min { result.x_min ≡ int_min first.x_min second.x_min }
     ensures y_min { result.y_min ≡ int_min first.y_min second.y_min }
     ensures x_max { result.x_max ≡ int_max first.x_max second.x_max }
     ensures y_max { result.y_max ≡ int_max first.y_max second.y_max }
-    ensures right { result.right ≡ int_min first.right second.right }
 {
-    Extent {
-        some: true,
+    Bounds {
         x_min: first.x_min.min(second.x_min),
         y_min: first.y_min.min(second.y_min),
         x_max: first.x_max.max(second.x_max),
         y_max: first.y_max.max(second.y_max),
-        right: first.right.min(second.right),
     }
+}
+
+// The lesser of two numbers.
+fn lesser(first: i16, second: i16) -> i16
+    ensures { result ≡ int_min first second }
+{
+    first.min(second)
 }
 
 // The widths with an advance width more.

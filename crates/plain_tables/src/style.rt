@@ -1,4 +1,5 @@
-ghost use Rattle.std.specs.Prelude.{◌≡◌, ℕ, ℤ, pos, List, length, IfOk, IfSome, ◌≤ℤ◌};
+ghost use Rattle.std.specs.Prelude.{◌≡◌, ℕ, ℤ, pos, List, length, IfOk, IfSome, ◌≤ℤ◌, if◌then◌else◌};
+ghost use Rattle.be_bytes.specs.declared.field.Field.TheVariants.{Tag, Uint16};
 ghost use Rattle.fontinfo.specs.FontInfo.{AreNumbersWithin};
 ghost use Rattle.fontinfo.specs.Ranges.{IsWithin, height};
 ghost use Rattle.glyf_loca.specs.Bounds.{greatest, least};
@@ -7,12 +8,13 @@ ghost use Rattle.plain_tables.specs.FixedFields.{AreRead, table_bytes, values_of
 ghost use Rattle.plain_tables.specs.StyleMetrics.{class_fields, clipped, codes_of, cut, line_fields, os2_of};
 
 use crate::facts::Facts;
-use crate::measures::{Extent, average, measured};
+use crate::measures::{average, measured};
 use crate::values::{hundredth, short, thousandth, word};
 use basics::NoMemory;
 use be_bytes::Field::{self, Int16, Tag, Uint8, Uint16, Uint32};
 use be_bytes::put_fields;
 use fontinfo::Info;
+use glyf_loca::Bounds;
 use std::alloc::Global;
 
 /// The last code point that a field of 16 bits holds.
@@ -34,7 +36,7 @@ pub fn os2(alloc: Global, facts: &Facts) -> Result<Vec<u8>, NoMemory>
     put_fields(&mut bytes, &class_fields(&facts.info, average))?;
     put_fields(
         &mut bytes,
-        &line_fields(&facts.info, measures.extent, codes, facts.substitutes),
+        &line_fields(&facts.info, measures.extent.bounds, codes, facts.substitutes),
     )?;
     Ok(bytes)
 }
@@ -84,13 +86,13 @@ fn class_fields(info: &Info, average: i16) -> [Field; 26]
 #[tactic(auto, unfolding(crate::specs::StyleMetrics::line_fields))]
 fn line_fields(
     info: &Info,
-    extent: Extent,
+    bounds: Bounds,
     codes: &[(u32, u16)],
     substitutes: bool,
 ) -> [Field; 20]
     requires numbers { AreNumbersWithin info.now }
     requires codes { CodesRise 0 codes.now }
-    ensures value { result ≡ values_of (line_fields info.now extent codes.now substitutes) }
+    ensures value { result ≡ values_of (line_fields info.now bounds codes.now substitutes) }
     ensures vendor { length info.now.vendor ≡ 4 }
 {
     [
@@ -100,7 +102,7 @@ fn line_fields(
         Uint32(0),
         Uint32(0),
         // achVendID, fsSelection, usFirstCharIndex, usLastCharIndex
-        Tag(info.vendor),
+        vendor(info.vendor),
         Uint16(0x0040),
         first_code(codes),
         last_code(codes),
@@ -109,8 +111,8 @@ fn line_fields(
         short(info.typo_descender),
         short(info.typo_gap),
         // usWinAscent, usWinDescent
-        clip(info.win_ascent, i32::from(extent.y_max)),
-        clip(info.win_descent, -i32::from(extent.y_min)),
+        clip(info.win_ascent, i32::from(bounds.y_max)),
+        clip(info.win_descent, -i32::from(bounds.y_min)),
         // ulCodePageRange1, ulCodePageRange2
         Uint32(0),
         Uint32(0),
@@ -119,8 +121,23 @@ fn line_fields(
         short(info.cap_height),
         Uint16(0),
         Uint16(32),
-        Uint16(if substitutes { 1 } else { 0 }),
+        context(substitutes),
     ]
+}
+
+// The field of the vendor.
+fn vendor(letters: [u8; 4]) -> Field
+    ensures value { result ≡ Tag letters }
+    ensures size { length letters ≡ 4 }
+{
+    Tag(letters)
+}
+
+// The field of the longest context: one glyph, where glyphs are substituted.
+fn context(substitutes: bool) -> Field
+    ensures { result ≡ Uint16 (if substitutes then 1 else 0) }
+{
+    if substitutes { Uint16(1) } else { Uint16(0) }
 }
 
 // The field of the least code point.
