@@ -20,11 +20,11 @@ use Rattle.plain_tables.specs.FontHeader.{head_fields, maxp_fields, revision_of}
 use Rattle.plain_tables.specs.GlyphMeasures.{average_of}
 use Rattle.plain_tables.specs.GlyphNames.{post_fields}
 use Rattle.plain_tables.specs.HorizontalMetrics.{hhea_fields}
-use Rattle.plain_tables.specs.Ranges.{FitsBounds, FitsCounts, FitsExtent}
 use Rattle.plain_tables.specs.StyleMetrics.{class_fields, clipped, hundredths, line_fields, os2_fields, thousandths}
 use Rattle.plain_tables.specs.declared.measures.Counts.{Counts}
 use Rattle.plain_tables.specs.declared.measures.Extent.{Extent}
 use Rattle.plain_tables.specs.declared.measures.Widths.{Widths}
+use Rattle.plain_tables.proofs.ExtentRanges.{FitsBounds, FitsCounts, FitsExtent}
 use Rattle.plain_tables.proofs.FieldReading.{Fits, follow, span}
 
 -- ---- values

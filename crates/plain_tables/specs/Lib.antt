@@ -4,5 +4,4 @@ pub mod FontHeader
 pub mod GlyphMeasures
 pub mod GlyphNames
 pub mod HorizontalMetrics
-pub mod Ranges
 pub mod StyleMetrics

@@ -8,6 +8,8 @@ mod glyph_names;
 mod glyphs;
 mod horizontal;
 mod measures;
+#[cfg(test)]
+mod slow_reader;
 mod style;
 #[cfg(test)]
 mod tests;

@@ -2,7 +2,6 @@ ghost use Rattle.std.specs.Prelude.{◌≡◌, ℕ, ◌+◌, ◌<◌, ◌≤◌,
 ghost use Rattle.std.specs.Int.{int_max, int_min};
 ghost use Rattle.plain_tables.specs.Conditions.{AreFacts, AreWidthsWithin, IsAdvanceWithin, IsGlyphWithin};
 ghost use Rattle.plain_tables.specs.GlyphMeasures.{average_of, counts_of, extent_of, glyphs_of, measures_of, right_bearing, widths_from};
-ghost use Rattle.plain_tables.specs.Ranges.{FitsCounts};
 ghost use Rattle.plain_tables.specs.declared.glyphs.Glyph.{Glyph};
 
 use crate::facts::Facts;
@@ -49,7 +48,6 @@ pub(crate) fn measured(facts: &Facts) -> Measures
     requires { AreFacts facts.now }
     ensures value { result ≡ measures_of (glyphs_of facts.now) }
     ensures within { AreWidthsWithin result.widths }
-    ensures counts_fit { FitsCounts result.counts }
 {
     let mut measures = none();
     for index in 0..facts.names.len() {

@@ -3,7 +3,7 @@ use Rattle.be_bytes.specs.Fields.{fields_bytes}
 use Rattle.plain_tables.specs.FixedFields.{AreRead, table_bytes}
 use Rattle.plain_tables.specs.FontHeader.{maxp_fields, maxp_of}
 use Rattle.plain_tables.specs.GlyphMeasures.{counts_of, glyphs_of}
-use Rattle.plain_tables.specs.Ranges.{FitsCounts}
+use Rattle.plain_tables.proofs.ExtentRanges.{counts_fit}
 use Rattle.plain_tables.specs.declared.measures.Measures.{Measures}
 use Rattle.plain_tables.proofs.FieldRanges.{maxp_fit, maxp_follow, maxp_span}
 use Rattle.plain_tables.proofs.FieldReading.{Fits, table_size, whole_read}
@@ -12,8 +12,7 @@ use Rattle.plain_tables.proofs.font_header.maxp.Goals as goal
 
 fit : (c : goal.In_ok-bytes) → AllByRecursion (λ own. Fits own.1) (maxp_of c.args.facts.now)
 fit c =
-    let fits : FitsCounts (counts_of (glyphs_of c.args.facts.now)) = subst (λ (m : Measures). FitsCounts m.counts) c.measured-measures.ensures.value c.measured-measures.ensures.counts_fit in
-    maxp_fit (length c.args.facts.now.names) (counts_of (glyphs_of c.args.facts.now)) (omega (arith, c.requires.greatest)) fits
+    maxp_fit (length c.args.facts.now.names) (counts_of (glyphs_of c.args.facts.now)) (omega (arith, c.requires.greatest)) (counts_fit c.args.facts.now c.requires)
 
 pub returns-clause-written : goal.returns-clause-written
 returns-clause-written c =
