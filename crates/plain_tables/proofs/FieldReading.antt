@@ -74,11 +74,10 @@ fields_read at before (own ∷ fields) rest size order fit =
     let there : drop own.0 (before ++ ((first ++ more) ++ rest)) ≡ first ++ (more ++ rest) =
     ap (λ (n : ℕ). drop n (before ++ ((first ++ more) ++ rest))) here ∙ drop_at before ((first ++ more) ++ rest) at size ∙ joined in
     let whole : before ++ ((first ++ more) ++ rest) ≡ (before ++ first) ++ (more ++ rest) =
-    ap (λ (bytes : List ℕ). before ++ bytes) joined ∙ sym (append_assoc before first (more ++ rest)) in
-    (
-        subst (IsRead own.1) (sym there) (field_read own.1 (more ++ rest) fit.0),
-        subst (λ (bytes : List ℕ). AllByRecursion (λ (other : ℕ × Field). IsRead other.1 (drop other.0 bytes)) fields) (sym whole)
-        (fields_read (at + size_of own.1) (before ++ first) fields rest (omega (arith, size, length-append before first, field_size own.1 fit.0)) tests.1 fit.1),
+    ap (λ (bytes : List ℕ). before ++ bytes) joined ∙ sym (append_assoc before first (more ++ rest)) in (
+      subst (IsRead own.1) (sym there) (field_read own.1 (more ++ rest) fit.0),
+      subst (λ (bytes : List ℕ). AllByRecursion (λ (other : ℕ × Field). IsRead other.1 (drop other.0 bytes)) fields) (sym whole)
+          (fields_read (at + size_of own.1) (before ++ first) fields rest (omega (arith, size, length-append before first, field_size own.1 fit.0)) tests.1 fit.1),
     )
 
 -- a table's fields, with other bytes after them

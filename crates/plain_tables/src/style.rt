@@ -36,7 +36,12 @@ pub fn os2(alloc: Global, facts: &Facts) -> Result<Vec<u8>, NoMemory>
     put_fields(&mut bytes, &class_fields(&facts.info, average))?;
     put_fields(
         &mut bytes,
-        &line_fields(&facts.info, measures.extent.bounds, codes, facts.substitutes),
+        &line_fields(
+            &facts.info,
+            measures.extent.bounds,
+            codes,
+            facts.substitutes,
+        ),
     )?;
     Ok(bytes)
 }
@@ -84,12 +89,7 @@ fn class_fields(info: &Info, average: i16) -> [Field; 26]
 
 // The fields after `panose`.
 #[tactic(auto, unfolding(crate::specs::StyleMetrics::line_fields))]
-fn line_fields(
-    info: &Info,
-    bounds: Bounds,
-    codes: &[(u32, u16)],
-    substitutes: bool,
-) -> [Field; 20]
+fn line_fields(info: &Info, bounds: Bounds, codes: &[(u32, u16)], substitutes: bool) -> [Field; 20]
     requires numbers { AreNumbersWithin info.now }
     requires codes { CodesRise 0 codes.now }
     ensures value { result ≡ values_of (line_fields info.now bounds codes.now substitutes) }
