@@ -54,21 +54,21 @@ pub fn cmap(alloc: Global, codes: &Seq<(u32, u16)>) -> Result<Vec<u8>, NoMemory>
     }
 }
 
-// Whether a code exceeds U+FFFF.
+/// Whether a code exceeds U+FFFF.
 fn exceed_basic(codes: &[(u32, u16)]) -> bool
     ensures { result ≡ list_any runs.exceeds codes.now }
 {
     codes.iter().any(|(code, _)| 0xFFFF < *code)
 }
 
-// The codes up to U+FFFE, of codes that rise.
+/// The codes up to U+FFFE, of codes that rise.
 fn basic_codes(codes: &[(u32, u16)]) -> &[(u32, u16)]
     ensures { result.now ≡ runs.basic_codes codes.now }
 {
     &codes[..basic_count(codes)]
 }
 
-// How many codes come before the first that exceeds U+FFFE.
+/// How many codes come before the first that exceeds U+FFFE.
 fn basic_count(codes: &[(u32, u16)]) -> usize
     ensures within { result ≤ length codes.now }
     ensures value { take result codes.now ≡ runs.basic_codes codes.now }
@@ -81,7 +81,7 @@ fn basic_count(codes: &[(u32, u16)]) -> usize
     codes.len()
 }
 
-// The table with the subtable of encoding 1 alone.
+/// The table with the subtable of encoding 1 alone.
 fn basic_alone(alloc: Global, basic: &[Group]) -> Result<Vec<u8>, NoMemory>
     requires few { length basic.now + 1 ≤ 8189 }
     requires fit { All FitsBasic basic.now }
@@ -94,7 +94,7 @@ fn basic_alone(alloc: Global, basic: &[Group]) -> Result<Vec<u8>, NoMemory>
     Ok(bytes)
 }
 
-// The table with the subtable of encoding 10 alone.
+/// The table with the subtable of encoding 10 alone.
 fn whole_alone(alloc: Global, whole: &[Group]) -> Result<Vec<u8>, NoMemory>
     requires { length whole.now ≤ 0x11_0000 }
     ensures { IfOk result (λ bytes. bytes.items ≡ cmap_bytes ((10, format_12_bytes whole.now) ∷ [])) }
@@ -106,7 +106,7 @@ fn whole_alone(alloc: Global, whole: &[Group]) -> Result<Vec<u8>, NoMemory>
     Ok(bytes)
 }
 
-// The table with both subtables.
+/// The table with both subtables.
 fn both(alloc: Global, basic: &[Group], whole: &[Group]) -> Result<Vec<u8>, NoMemory>
     requires few { length basic.now + 1 ≤ 8189 }
     requires fit { All FitsBasic basic.now }
@@ -124,14 +124,14 @@ fn both(alloc: Global, basic: &[Group], whole: &[Group]) -> Result<Vec<u8>, NoMe
     Ok(bytes)
 }
 
-// The fields before the encoding records: version, numTables.
+/// The fields before the encoding records: version, numTables.
 fn header(count: u16) -> [Field; 2]
     ensures { result ≡ Uint16 0 ∷ Uint16 count ∷ [] }
 {
     [Uint16(0), Uint16(count)]
 }
 
-// The fields of an encoding record of Windows.
+/// The fields of an encoding record of Windows.
 #[tactic(auto, unfolding(crate::specs::CharacterLayout::encoding_fields))]
 fn record(encoding: u16, offset: u32) -> [Field; 3]
     ensures { result ≡ encoding_fields (record { platform = 3; encoding = encoding; offset = offset }) }

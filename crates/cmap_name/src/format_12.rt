@@ -12,7 +12,7 @@ const HEADER: u32 = 16;
 /// The bytes of a group.
 const GROUP: u32 = 12;
 
-// Appends the subtable of these runs in format 12.
+/// Appends the subtable of these runs in format 12.
 pub(crate) fn put_format_12(out: &mut Vec<u8>, groups: &[Group]) -> Result<(), NoMemory>
     requires { length groups.now ≤ 0x11_0000 }
     ensures { OnOk result (out.new.items ≡ out.old.items ++ format_12_bytes groups.now) }
@@ -24,7 +24,7 @@ pub(crate) fn put_format_12(out: &mut Vec<u8>, groups: &[Group]) -> Result<(), N
     Ok(())
 }
 
-// The fields before the groups.
+/// The fields before the groups.
 #[tactic(auto, unfolding(crate::specs::CharacterLayout::format_12_fields))]
 fn header(count: u32) -> [Field; 5]
     requires { count ≤ 0x11_0000 }
@@ -42,7 +42,7 @@ fn header(count: u32) -> [Field; 5]
     ]
 }
 
-// The fields of a group.
+/// The fields of a group.
 #[tactic(auto, unfolding(crate::specs::CharacterLayout::group_fields))]
 fn fields_of(group: Group) -> [Field; 3]
     ensures { result ≡ group_fields group }

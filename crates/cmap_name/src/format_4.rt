@@ -49,7 +49,7 @@ pub(crate) enum Array {
     IdRangeOffset,
 }
 
-// The bytes of the subtable of so many runs.
+/// The bytes of the subtable of so many runs.
 pub(crate) fn format_4_size(groups: usize) -> u32
     requires { groups + 1 ≤ 8189 }
     ensures { result ≡ 16 + 8 * (groups + 1) }
@@ -57,7 +57,7 @@ pub(crate) fn format_4_size(groups: usize) -> u32
     u32::from(HEADER) + u32::from(SEGMENT) * (groups as u32 + 1)
 }
 
-// Appends the subtable of these runs in format 4.
+/// Appends the subtable of these runs in format 4.
 pub(crate) fn put_format_4(
     alloc: Global,
     out: &mut Vec<u8>,
@@ -79,7 +79,7 @@ pub(crate) fn put_format_4(
     put_array(out, Array::IdRangeOffset, &segments)
 }
 
-// The segments of these runs, and the last one.
+/// The segments of these runs, and the last one.
 fn segments_of(alloc: Global, groups: &[Group]) -> Result<Vec<Segment>, NoMemory>
     requires { All FitsBasic groups.now }
     ensures { IfOk result (λ segments. segments.items ≡ layout.segments_of groups.now) }
@@ -92,7 +92,7 @@ fn segments_of(alloc: Global, groups: &[Group]) -> Result<Vec<Segment>, NoMemory
     Ok(segments)
 }
 
-// The segment of a run.
+/// The segment of a run.
 fn segment_of(group: Group) -> Segment
     requires { FitsBasic group }
     ensures { result ≡ layout.segment_of group }
@@ -106,7 +106,7 @@ fn segment_of(group: Group) -> Segment
     }
 }
 
-// The fields before the arrays.
+/// The fields before the arrays.
 #[tactic(auto, unfolding(crate::specs::CharacterLayout::format_4_fields))]
 fn header(count: u16, search: SearchFields) -> [Field; 7]
     requires { count ≤ 8189 }
@@ -126,7 +126,7 @@ fn header(count: u16, search: SearchFields) -> [Field; 7]
     ]
 }
 
-// Appends an array.
+/// Appends an array.
 fn put_array(out: &mut Vec<u8>, array: Array, segments: &[Segment]) -> Result<(), NoMemory>
     ensures { OnOk result (out.new.items ≡ out.old.items ++ array_bytes array segments.now) }
 {
@@ -136,7 +136,7 @@ fn put_array(out: &mut Vec<u8>, array: Array, segments: &[Segment]) -> Result<()
     Ok(())
 }
 
-// What an array has of a segment.
+/// What an array has of a segment.
 fn item_of(array: Array, segment: Segment) -> u16
     ensures { result ≡ layout.item_of array segment }
 {

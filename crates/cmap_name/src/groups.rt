@@ -17,7 +17,7 @@ pub(crate) struct Group {
     pub(crate) glyph: u16,
 }
 
-// The maximal runs of these characters with their glyphs.
+/// The maximal runs of these characters with their glyphs.
 pub(crate) fn groups_of(alloc: Global, codes: &[(u32, u16)]) -> Result<Vec<Group>, NoMemory>
     requires { All (λ own. own.0 ≤ 0x10_FFFF) codes.now }
     ensures value { IfOk result (λ groups. groups.items ≡ runs.groups_of codes.now) }
@@ -34,7 +34,7 @@ pub(crate) fn groups_of(alloc: Global, codes: &[(u32, u16)]) -> Result<Vec<Group
     Ok(groups)
 }
 
-// A character by itself.
+/// A character by itself.
 fn alone(code: u32, glyph: u16) -> Group
     requires { code ≤ 0x10_FFFF }
     ensures value { result ≡ one (code, glyph) }
@@ -47,7 +47,7 @@ fn alone(code: u32, glyph: u16) -> Group
     }
 }
 
-// Gives the current run with the next one added; where it doesn't go on, it is closed, and the next one is current.
+/// Gives the current run with the next one added; where it doesn't go on, it is closed, and the next one is current.
 fn add(closed: &mut Vec<Group>, current: Group, next: Group) -> Result<Group, NoMemory>
     requires current { FitsGroup current }
     requires next { FitsGroup next }
@@ -68,7 +68,7 @@ fn add(closed: &mut Vec<Group>, current: Group, next: Group) -> Result<Group, No
     Ok(next)
 }
 
-// Whether the next run begins where this one would go on.
+/// Whether the next run begins where this one would go on.
 fn goes_on(group: Group, next: Group) -> bool
     requires { FitsGroup group }
     ensures { result ≡ runs.goes_on group next }

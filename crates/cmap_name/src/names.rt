@@ -44,7 +44,7 @@ pub fn name(alloc: Global, records: &Seq<(u16, Name)>) -> Result<Vec<u8>, NoMemo
     Ok(bytes)
 }
 
-// The fields before the records: version, count, storageOffset.
+/// The fields before the records: version, count, storageOffset.
 fn header(count: u16) -> [Field; 3]
     requires { count ≤ 1000 }
     ensures { result ≡ Uint16 0 ∷ Uint16 count ∷ Uint16 (6 + 12 * count) ∷ [] }
@@ -52,7 +52,7 @@ fn header(count: u16) -> [Field; 3]
     [Uint16(0), Uint16(count), Uint16(HEADER + RECORD * count)]
 }
 
-// Appends the records of all names.
+/// Appends the records of all names.
 fn put_records(out: &mut Vec<u8>, names: &[(u16, Name)]) -> Result<(), NoMemory>
     requires { sum_by (λ own. 2 * utf16_length own.1) names.now ≤ 65535 }
     ensures written { OnOk result (out.new.items ≡ out.old.items ++ flat_map name_record_bytes (name_records_from 0 names.now)) }
@@ -67,7 +67,7 @@ fn put_records(out: &mut Vec<u8>, names: &[(u16, Name)]) -> Result<(), NoMemory>
     Ok(())
 }
 
-// The fields of a record.
+/// The fields of a record.
 #[tactic(auto, unfolding(crate::specs::NameLayout::name_fields))]
 fn record(id: u16, size: u16, offset: u16) -> [Field; 6]
     ensures value { result ≡ name_fields (record { platform = 3; encoding = 1; language = 0x0409; id = id; size = size; offset = offset }) }

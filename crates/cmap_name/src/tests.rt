@@ -94,7 +94,7 @@ const NAMES: [Names; 3] = [
     },
 ];
 
-// Whether the characters rise from this one on, and can all be in a map.
+/// Whether the characters rise from this one on, and can all be in a map.
 fn can_be_map(least: u32, codes: &[(u32, u16)]) -> bool
     ensures rise { IsTrue result → Rise least codes.now }
     ensures each { IsTrue result → All IsCharacter codes.now }
@@ -110,7 +110,7 @@ fn can_be_map(least: u32, codes: &[(u32, u16)]) -> bool
     }
 }
 
-// Whether the ids rise from this one on, and the texts have room.
+/// Whether the ids rise from this one on, and the texts have room.
 fn can_be_names(least: u32, room: usize, names: &[(u16, Name)]) -> bool
     ensures rise { IsTrue result → Rise least names.now }
     ensures small { IsTrue result → sum_by (λ own. 2 * utf16_length own.1) names.now ≤ room }
@@ -146,7 +146,7 @@ fn names_of(alloc: Global, rows: &[(u16, &str)]) -> Option<Vec<u8>> {
     name(alloc, &names).ok()
 }
 
-// A field of 16 bits, and one of 32.
+/// A field of 16 bits, and one of 32.
 fn word(bytes: &[u8], offset: usize) -> Option<u32> {
     let high = *bytes.get(offset)?;
     let low = *bytes.get(offset.checked_add(1)?)?;
@@ -159,7 +159,7 @@ fn long(bytes: &[u8], offset: usize) -> Option<u32> {
     high.checked_mul(65536)?.checked_add(low)
 }
 
-// Where the subtable of an encoding of Windows begins, or 0 where it isn't there.
+/// Where the subtable of an encoding of Windows begins, or 0 where it isn't there.
 fn subtable(bytes: &[u8], encoding: u32) -> Option<usize> {
     let count = word(bytes, 2)?;
     let mut offset = 4usize;
@@ -172,7 +172,7 @@ fn subtable(bytes: &[u8], encoding: u32) -> Option<usize> {
     Some(0)
 }
 
-// The glyph of a character by format 4, from the arrays one by one.
+/// The glyph of a character by format 4, from the arrays one by one.
 fn by_format_4(bytes: &[u8], start: usize, character: u32) -> Option<u32> {
     let doubled = word(bytes, start.checked_add(6)?)? as usize;
     let mut end = start.checked_add(14)?;
@@ -190,7 +190,7 @@ fn by_format_4(bytes: &[u8], start: usize, character: u32) -> Option<u32> {
     Some(0)
 }
 
-// The glyph of a character by format 12, group by group.
+/// The glyph of a character by format 12, group by group.
 fn by_format_12(bytes: &[u8], start: usize, character: u32) -> Option<u32> {
     let count = long(bytes, start.checked_add(12)?)?;
     let mut group = start.checked_add(16)?;
@@ -204,7 +204,7 @@ fn by_format_12(bytes: &[u8], start: usize, character: u32) -> Option<u32> {
     Some(0)
 }
 
-// The glyphs of a character by each subtable that is there.
+/// The glyphs of a character by each subtable that is there.
 fn glyphs_of(bytes: &[u8], character: u32) -> Option<(Option<u32>, Option<u32>)> {
     let basic = subtable(bytes, 1)?;
     let whole = subtable(bytes, 10)?;
@@ -221,7 +221,7 @@ fn glyphs_of(bytes: &[u8], character: u32) -> Option<(Option<u32>, Option<u32>)>
     Some((first, second))
 }
 
-// The glyph of a character among these, or 0.
+/// The glyph of a character among these, or 0.
 fn glyph_of(codes: &[(u32, u16)], character: u32) -> u32 {
     for (code, glyph) in codes {
         if *code == character {
@@ -231,7 +231,7 @@ fn glyph_of(codes: &[(u32, u16)], character: u32) -> u32 {
     0
 }
 
-// Whether each subtable that is there gives a character this glyph, that of format 4 up to U+FFFE.
+/// Whether each subtable that is there gives a character this glyph, that of format 4 up to U+FFFE.
 fn is_read(table: &[u8], character: u32, glyph: u32) -> bool {
     match glyphs_of(table, character) {
         Some((first, second)) => {
@@ -266,7 +266,7 @@ fn maps_by_hand(rt: HostRuntime) -> Result<(), Fail> {
     Ok(())
 }
 
-// A map of so many characters none of which follows another: 0x20, 0x22 and so on, with the glyphs 0, 1 and so on.
+/// A map of so many characters none of which follows another: 0x20, 0x22 and so on, with the glyphs 0, 1 and so on.
 fn apart(alloc: Global, count: u16) -> Option<Vec<u8>> {
     let mut codes = Seq::new(alloc);
     for glyph in 0..count {
@@ -275,7 +275,7 @@ fn apart(alloc: Global, count: u16) -> Option<Vec<u8>> {
     map_of(alloc, &codes)
 }
 
-// The glyph of a character of that map.
+/// The glyph of a character of that map.
 fn glyph_apart(character: u32, count: u16) -> u32 {
     if character < 0x20 || character % 2 == 1 {
         return 0;
@@ -284,7 +284,7 @@ fn glyph_apart(character: u32, count: u16) -> u32 {
     if glyph < u32::from(count) { glyph } else { 0 }
 }
 
-// All characters that format 4 names, each with its glyph, segment by segment.
+/// All characters that format 4 names, each with its glyph, segment by segment.
 fn named_by_format_4(alloc: Global, bytes: &[u8], start: usize) -> Option<Vec<(u32, u32)>> {
     let doubled = word(bytes, start.checked_add(6)?)? as usize;
     let mut named = Vec::new(alloc);
@@ -301,7 +301,7 @@ fn named_by_format_4(alloc: Global, bytes: &[u8], start: usize) -> Option<Vec<(u
     Some(named)
 }
 
-// All characters that format 12 names, each with its glyph, group by group.
+/// All characters that format 12 names, each with its glyph, group by group.
 fn named_by_format_12(alloc: Global, bytes: &[u8], start: usize) -> Option<Vec<(u32, u32)>> {
     let count = long(bytes, start.checked_add(12)?)?;
     let mut named = Vec::new(alloc);
@@ -318,7 +318,7 @@ fn named_by_format_12(alloc: Global, bytes: &[u8], start: usize) -> Option<Vec<(
     Some(named)
 }
 
-// Whether these are so many characters that stand apart, and then the others.
+/// Whether these are so many characters that stand apart, and then the others.
 fn are_apart(named: &[(u32, u32)], count: u16, others: &[(u32, u32)]) -> bool {
     for glyph in 0..count {
         let expected = (2 * u32::from(glyph) + 0x20, u32::from(glyph));

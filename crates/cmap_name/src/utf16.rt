@@ -16,7 +16,7 @@ const HIGH: u16 = 0xD800;
 
 const LOW: u16 = 0xDC00;
 
-// Appends a text in UTF-16, big-endian.
+/// Appends a text in UTF-16, big-endian.
 pub(crate) fn put_text(out: &mut Vec<u8>, text: &str) -> Result<(), NoMemory>
     ensures written { OnOk result (out.new.items ≡ out.old.items ++ text_bytes text.now) }
     ensures text { OnOk result (IsUtf8 text.now) }
@@ -27,7 +27,7 @@ pub(crate) fn put_text(out: &mut Vec<u8>, text: &str) -> Result<(), NoMemory>
     Ok(())
 }
 
-// Appends the units of a character.
+/// Appends the units of a character.
 fn put_character(out: &mut Vec<u8>, character: char) -> Result<(), NoMemory>
     ensures { OnOk result (out.new.items ≡ out.old.items ++ flat_map word (units_of character)) }
 {

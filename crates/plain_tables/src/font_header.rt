@@ -31,7 +31,7 @@ pub fn head(alloc: Global, facts: &Facts) -> Result<Vec<u8>, NoMemory>
     Ok(bytes)
 }
 
-// The fields of `head`.
+/// The fields of `head`.
 #[tactic(auto, unfolding(crate::specs::FontHeader::head_fields))]
 fn head_fields(info: &Info, bounds: Bounds, long: bool) -> [Field; 18]
     requires { AreNumbersWithin info.now }
@@ -65,7 +65,7 @@ fn head_fields(info: &Info, bounds: Bounds, long: bool) -> [Field; 18]
     ]
 }
 
-// The field of the version, its minor number in thousandths.
+/// The field of the version, its minor number in thousandths.
 fn revision(info: &Info) -> Field
     requires { AreNumbersWithin info.now }
     ensures { result ≡ Int32 (revision_of info.now) }
@@ -88,7 +88,7 @@ pub fn maxp(alloc: Global, facts: &Facts) -> Result<Vec<u8>, NoMemory>
     Ok(bytes)
 }
 
-// The fields of `maxp`.
+/// The fields of `maxp`.
 #[tactic(auto, unfolding(crate::specs::FontHeader::maxp_fields))]
 fn maxp_fields(glyphs: u16, counts: Counts) -> [Field; 15]
     ensures { result ≡ values_of (maxp_fields glyphs counts) }

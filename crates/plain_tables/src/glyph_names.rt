@@ -35,7 +35,7 @@ pub fn post(alloc: Global, facts: &Facts) -> Result<Vec<u8>, NoMemory>
     Ok(bytes)
 }
 
-// The fields of `post` before its arrays.
+/// The fields of `post` before its arrays.
 #[tactic(auto, unfolding(crate::specs::GlyphNames::post_fields))]
 fn post_fields(info: &Info, glyphs: u16) -> [Field; 10]
     requires { AreNumbersWithin info.now }
@@ -59,7 +59,7 @@ fn post_fields(info: &Info, glyphs: u16) -> [Field; 10]
     ]
 }
 
-// Appends the index of each glyph's name.
+/// Appends the index of each glyph's name.
 fn put_indexes(out: &mut Vec<u8>, glyphs: u16) -> Result<(), NoMemory>
     requires { glyphs ≤ 32510 }
     ensures { OnOk result (out.new.items ≡ out.old.items ++ flat_map index_bytes (numbers_from 258 glyphs)) }
@@ -70,7 +70,7 @@ fn put_indexes(out: &mut Vec<u8>, glyphs: u16) -> Result<(), NoMemory>
     Ok(())
 }
 
-// Appends names, each after its length.
+/// Appends names, each after its length.
 fn put_names(out: &mut Vec<u8>, names: &[Name]) -> Result<(), NoMemory>
     requires { All IsNameWithin names.now }
     ensures { OnOk result (out.new.items ≡ out.old.items ++ flat_map name_bytes names.now) }
@@ -81,7 +81,7 @@ fn put_names(out: &mut Vec<u8>, names: &[Name]) -> Result<(), NoMemory>
     Ok(())
 }
 
-// Appends a name after its length.
+/// Appends a name after its length.
 fn put_name(out: &mut Vec<u8>, name: &Name) -> Result<(), NoMemory>
     requires { IsNameWithin name.now }
     ensures { OnOk result (out.new.items ≡ out.old.items ++ name_bytes name.now) }

@@ -14,7 +14,7 @@ pub(crate) struct Glyph {
     pub(crate) contours: u16,
 }
 
-// The glyph of an index.
+/// The glyph of an index.
 pub(crate) fn glyph_at(facts: &Facts, index: usize) -> Glyph
     requires facts { AreFacts facts.now }
     requires within { index < length facts.now.names }

@@ -31,7 +31,7 @@ pub fn hhea(alloc: Global, facts: &Facts) -> Result<Vec<u8>, NoMemory>
     Ok(bytes)
 }
 
-// The fields of `hhea`.
+/// The fields of `hhea`.
 #[tactic(auto, unfolding(crate::specs::HorizontalMetrics::hhea_fields))]
 fn hhea_fields(info: &Info, extent: Extent, widest: i32, glyphs: u16) -> [Field; 18]
     requires numbers { AreNumbersWithin info.now }
@@ -80,7 +80,7 @@ pub fn hmtx(alloc: Global, facts: &Facts) -> Result<Vec<u8>, NoMemory>
     Ok(bytes)
 }
 
-// The fields of a glyph in `hmtx`: advanceWidth, lsb.
+/// The fields of a glyph in `hmtx`: advanceWidth, lsb.
 fn metric(glyph: Glyph) -> [Field; 2]
     requires { IsGlyphWithin glyph }
     ensures { result ≡ metric_fields (metric_of glyph) }

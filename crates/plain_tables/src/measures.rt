@@ -43,7 +43,7 @@ pub(crate) struct Measures {
     pub(crate) counts: Counts,
 }
 
-// The measures of all glyphs, in one pass over them.
+/// The measures of all glyphs, in one pass over them.
 pub(crate) fn measured(facts: &Facts) -> Measures
     requires { AreFacts facts.now }
     ensures value { result ≡ measures_of (glyphs_of facts.now) }
@@ -61,7 +61,7 @@ pub(crate) fn measured(facts: &Facts) -> Measures
     measures
 }
 
-// The measures of no glyph.
+/// The measures of no glyph.
 #[tactic(auto, unfolding(crate::specs::GlyphMeasures::counts_of, crate::specs::GlyphMeasures::extent_of, crate::specs::GlyphMeasures::widths_from))]
 fn none() -> Measures
     ensures value { result ≡ measures_of [] }
@@ -93,7 +93,7 @@ fn none() -> Measures
     }
 }
 
-// The extent with a glyph more.
+/// The extent with a glyph more.
 fn extended(extent: Extent, glyph: Glyph) -> Extent
     requires { IsGlyphWithin glyph }
     ensures { (glyphs : List Glyph) → extent ≡ extent_of glyphs → result ≡ extent_of (glyphs ++ glyph ∷ []) }
@@ -116,7 +116,7 @@ fn extended(extent: Extent, glyph: Glyph) -> Extent
     }
 }
 
-// From the rightmost point of a glyph to its advance width.
+/// From the rightmost point of a glyph to its advance width.
 fn right_bearing(glyph: Glyph) -> i16
     requires { IsGlyphWithin glyph }
     ensures { result ≡ right_bearing glyph }
@@ -124,7 +124,7 @@ fn right_bearing(glyph: Glyph) -> i16
     (glyph.advance - i32::from(glyph.bounds.x_max)) as i16
 }
 
-// The box round two boxes.
+/// The box round two boxes.
 fn round_both(first: Bounds, second: Bounds) -> Bounds
     ensures x_min { result.x_min ≡ int_min first.x_min second.x_min }
     ensures y_min { result.y_min ≡ int_min first.y_min second.y_min }
@@ -139,14 +139,14 @@ fn round_both(first: Bounds, second: Bounds) -> Bounds
     }
 }
 
-// The lesser of two numbers.
+/// The lesser of two numbers.
 fn lesser(first: i16, second: i16) -> i16
     ensures { result ≡ int_min first second }
 {
     first.min(second)
 }
 
-// The widths with an advance width more.
+/// The widths with an advance width more.
 fn widened(widths: Widths, advance: i32) -> Widths
     requires advance { IsAdvanceWithin advance }
     requires few { widths.count < 32510 }
@@ -170,7 +170,7 @@ fn widened(widths: Widths, advance: i32) -> Widths
     }
 }
 
-// The counts with a glyph more.
+/// The counts with a glyph more.
 fn counted(counts: Counts, glyph: Glyph) -> Counts
     ensures { (glyphs : List Glyph) → counts ≡ counts_of glyphs → result ≡ counts_of (glyphs ++ glyph ∷ []) }
 {
@@ -180,7 +180,7 @@ fn counted(counts: Counts, glyph: Glyph) -> Counts
     }
 }
 
-// The average of the advance widths above 0, rounded to the nearest number, a tie going up.
+/// The average of the advance widths above 0, rounded to the nearest number, a tie going up.
 pub(crate) fn average(widths: Widths) -> i16
     requires { AreWidthsWithin widths }
     ensures { result ≡ average_of widths }

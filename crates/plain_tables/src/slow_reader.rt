@@ -1,7 +1,7 @@
 //! A plain reader of the tables with a record a glyph, written from the standard's words alone, for the tests to
 //! compare with.
 
-// The number of two bytes at an offset.
+/// The number of two bytes at an offset.
 fn word(bytes: &[u8], offset: usize) -> Option<u16> {
     let after = bytes.get(offset..)?;
     let [high, low, ..] = after else {

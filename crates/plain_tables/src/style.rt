@@ -46,7 +46,7 @@ pub fn os2(alloc: Global, facts: &Facts) -> Result<Vec<u8>, NoMemory>
     Ok(bytes)
 }
 
-// The fields up to the classes of `panose`.
+/// The fields up to the classes of `panose`.
 #[tactic(auto, unfolding(crate::specs::StyleMetrics::class_fields))]
 fn class_fields(info: &Info, average: i16) -> [Field; 26]
     requires { AreNumbersWithin info.now }
@@ -87,7 +87,7 @@ fn class_fields(info: &Info, average: i16) -> [Field; 26]
     ]
 }
 
-// The fields after `panose`.
+/// The fields after `panose`.
 #[tactic(auto, unfolding(crate::specs::StyleMetrics::line_fields))]
 fn line_fields(info: &Info, bounds: Bounds, codes: &[(u32, u16)], substitutes: bool) -> [Field; 20]
     requires numbers { AreNumbersWithin info.now }
@@ -125,7 +125,7 @@ fn line_fields(info: &Info, bounds: Bounds, codes: &[(u32, u16)], substitutes: b
     ]
 }
 
-// The field of the vendor.
+/// The field of the vendor.
 fn vendor(letters: [u8; 4]) -> Field
     ensures value { result ≡ Tag letters }
     ensures size { length letters ≡ 4 }
@@ -133,14 +133,14 @@ fn vendor(letters: [u8; 4]) -> Field
     Tag(letters)
 }
 
-// The field of the longest context: one glyph, where glyphs are substituted.
+/// The field of the longest context: one glyph, where glyphs are substituted.
 fn context(substitutes: bool) -> Field
     ensures { result ≡ Uint16 (if substitutes then 1 else 0) }
 {
     if substitutes { Uint16(1) } else { Uint16(0) }
 }
 
-// The field of the least code point.
+/// The field of the least code point.
 fn first_code(codes: &[(u32, u16)]) -> Field
     requires { CodesRise 0 codes.now }
     ensures { result ≡ cut (least (codes_of codes.now)) }
@@ -152,7 +152,7 @@ fn first_code(codes: &[(u32, u16)]) -> Field
     Uint16(code.min(LAST_CODE) as u16)
 }
 
-// The field of the greatest code point.
+/// The field of the greatest code point.
 fn last_code(codes: &[(u32, u16)]) -> Field
     requires { CodesRise 0 codes.now }
     ensures { result ≡ cut (greatest (codes_of codes.now)) }
@@ -164,7 +164,7 @@ fn last_code(codes: &[(u32, u16)]) -> Field
     Uint16(code.min(LAST_CODE) as u16)
 }
 
-// The field of a clipping height: the one that is told, or how far glyphs reach.
+/// The field of a clipping height: the one that is told, or how far glyphs reach.
 fn clip(told: Option<i32>, reach: i32) -> Field
     requires told { IfSome told (IsWithin height) }
     requires reach { reach ≤ℤ pos 65535 }

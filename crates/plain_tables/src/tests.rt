@@ -113,7 +113,7 @@ const LENGTHS: [(u16, u16); 3] = [(8, 2), (0, 0), (14, 1)];
 
 const CODES: [(u32, u16); 2] = [(0x20, 1), (0x1F600, 2)];
 
-// Font information with a number of its own in each field, and with these clipping heights.
+/// Font information with a number of its own in each field, and with these clipping heights.
 fn info_of(alloc: Global, ascent: Option<i32>, descent: Option<i32>) -> Result<Info, NoMemory>
     requires ascent { IfSome ascent (IsWithin height) }
     requires descent { IfSome descent (IsWithin height) }
@@ -151,7 +151,7 @@ fn info_of(alloc: Global, ascent: Option<i32>, descent: Option<i32>) -> Result<I
     })
 }
 
-// The names of three glyphs.
+/// The names of three glyphs.
 fn names_of(alloc: Global) -> Result<Seq<Name>, NoMemory>
     ensures count { IfOk result (λ names. length names ≡ 3) }
     ensures within { IfOk result (All IsNameWithin) }
@@ -163,7 +163,7 @@ fn names_of(alloc: Global) -> Result<Seq<Name>, NoMemory>
     Ok(names)
 }
 
-// A list of these items.
+/// A list of these items.
 fn list<T: Copy>(alloc: Global, items: &[T]) -> Result<Seq<T>, NoMemory>
     ensures { IfOk result (λ list. list ≡ items.now) }
 {
@@ -171,7 +171,7 @@ fn list<T: Copy>(alloc: Global, items: &[T]) -> Result<Seq<T>, NoMemory>
     Ok(Seq::from_vec(items))
 }
 
-// The facts of a font with three glyphs, one of them without contours.
+/// The facts of a font with three glyphs, one of them without contours.
 fn drawn(alloc: Global) -> Result<Facts, NoMemory>
     ensures { IfOk result AreFacts }
 {
@@ -193,7 +193,7 @@ fn drawn(alloc: Global) -> Result<Facts, NoMemory>
     })
 }
 
-// The facts of a font with three glyphs without contours, advance widths and codes.
+/// The facts of a font with three glyphs without contours, advance widths and codes.
 fn empty(alloc: Global) -> Result<Facts, NoMemory>
     ensures { IfOk result AreFacts }
 {
@@ -241,7 +241,7 @@ fn empty_by_hand(rt: HostRuntime) -> Result<(), Fail> {
     Ok(())
 }
 
-// Whether a glyph has this metric and this name.
+/// Whether a glyph has this metric and this name.
 fn is_read(hmtx: &[u8], post: &[u8], glyph: u16, own: (u16, i16), text: &str) -> bool {
     metric(hmtx, glyph) == Some(own) && name(post, glyph) == Some(text.as_bytes())
 }

@@ -11,7 +11,7 @@ use be_bytes::put_fields;
 use fixpoint::divide_up;
 use std::alloc::Global;
 
-// A table of these fields.
+/// A table of these fields.
 pub(crate) fn table(alloc: Global, fields: &[Field]) -> Result<Vec<u8>, NoMemory>
     ensures { IfOk result (λ bytes. bytes.items ≡ fields_bytes fields.now) }
 {
@@ -20,7 +20,7 @@ pub(crate) fn table(alloc: Global, fields: &[Field]) -> Result<Vec<u8>, NoMemory
     Ok(bytes)
 }
 
-// The field of a number that isn't negative.
+/// The field of a number that isn't negative.
 pub(crate) fn word(value: i32) -> Field
     requires least { pos 0 ≤ℤ value }
     requires greatest { value ≤ℤ pos 65535 }
@@ -29,7 +29,7 @@ pub(crate) fn word(value: i32) -> Field
     Uint16(value as u16)
 }
 
-// The field of a number of the font information.
+/// The field of a number of the font information.
 pub(crate) fn short(value: i32) -> Field
     requires { IsWithin metric value }
     ensures { result ≡ Int16 value }
@@ -37,7 +37,7 @@ pub(crate) fn short(value: i32) -> Field
     Int16(value as i16)
 }
 
-// The field of a number over 100, rounded to the nearest number, a tie going up.
+/// The field of a number over 100, rounded to the nearest number, a tie going up.
 pub(crate) fn hundredth(value: i32) -> Field
     requires least { negsuc 3276699 ≤ℤ value }
     requires greatest { value ≤ℤ pos 3276700 }
@@ -46,7 +46,7 @@ pub(crate) fn hundredth(value: i32) -> Field
     Int16(divide_up(i64::from(value), 100) as i16)
 }
 
-// The same over 1000.
+/// The same over 1000.
 pub(crate) fn thousandth(value: i32) -> Field
     requires least { negsuc 32766999 ≤ℤ value }
     requires greatest { value ≤ℤ pos 32767000 }

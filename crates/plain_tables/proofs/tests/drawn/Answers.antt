@@ -23,7 +23,7 @@ returns c =
       lengths_each = ap (λ (xs : List (ℕ × ℕ)). length xs) c.in_ok-lengths.ensures ∙ sym c.in_ok-names.ensures.count;
       names = c.in_ok-names.ensures.within;
       advances = held IsAdvanceWithin c.in_ok-advances.advances advances c.in_ok-advances.ensures (record { least = omega (arith, ints); greatest = omega (arith, ints) }, (record { least = omega (arith, ints); greatest = omega (arith, ints) }, (record { least = omega (arith, ints); greatest = omega (arith, ints) }, tt)));
-      bounds = held AreBoundsWithin c.in_ok-bounds.bounds bounds c.in_ok-bounds.ensures (record { least_x_min = omega (arith, ints); greatest_x_min = omega (arith, ints); least_y_min = omega (arith, ints); greatest_y_min = omega (arith, ints); least_x_max = omega (arith, ints); greatest_x_max = omega (arith, ints); least_y_max = omega (arith, ints); greatest_y_max = omega (arith, ints); }, (record { least_x_min = omega (arith, ints); greatest_x_min = omega (arith, ints); least_y_min = omega (arith, ints); greatest_y_min = omega (arith, ints); least_x_max = omega (arith, ints); greatest_x_max = omega (arith, ints); least_y_max = omega (arith, ints); greatest_y_max = omega (arith, ints); }, (record { least_x_min = omega (arith, ints); greatest_x_min = omega (arith, ints); least_y_min = omega (arith, ints); greatest_y_min = omega (arith, ints); least_x_max = omega (arith, ints); greatest_x_max = omega (arith, ints); least_y_max = omega (arith, ints); greatest_y_max = omega (arith, ints); }, tt)));
+      bounds = held AreBoundsWithin c.in_ok-bounds.bounds bounds c.in_ok-bounds.ensures (record { least_x_min = omega (arith, ints); greatest_x_min = omega (arith, ints); least_y_min = omega (arith, ints); greatest_y_min = omega (arith, ints); least_x_max = omega (arith, ints); greatest_x_max = omega (arith, ints); least_y_max = omega (arith, ints); greatest_y_max = omega (arith, ints) }, (record { least_x_min = omega (arith, ints); greatest_x_min = omega (arith, ints); least_y_min = omega (arith, ints); greatest_y_min = omega (arith, ints); least_x_max = omega (arith, ints); greatest_x_max = omega (arith, ints); least_y_max = omega (arith, ints); greatest_y_max = omega (arith, ints) }, (record { least_x_min = omega (arith, ints); greatest_x_min = omega (arith, ints); least_y_min = omega (arith, ints); greatest_y_min = omega (arith, ints); least_x_max = omega (arith, ints); greatest_x_max = omega (arith, ints); least_y_max = omega (arith, ints); greatest_y_max = omega (arith, ints) }, tt)));
       lengths = held AreLengthsWithin c.in_ok-lengths.lengths lengths c.in_ok-lengths.ensures (record { points = omega arith; contours = omega arith }, (record { points = omega arith; contours = omega arith }, (record { points = omega arith; contours = omega arith }, tt)));
       numbers = c.in_ok-info.ensures;
       codes = subst (CodesRise 0) (sym c.in_ok-codes.ensures) (omega arith, (omega arith, tt));
