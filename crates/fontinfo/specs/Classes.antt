@@ -1,5 +1,5 @@
 -- The rest of what the table `OS/2` says: where glyphs are cut off, the classes of weight and width, and the vendor.
-use Rattle.std.specs.Prelude.{ℕ, ℤ, pos, List, [], ◌∷◌, codes, IfSome, Result, Ok}
+use Rattle.std.specs.Prelude.{ℕ, pos, List, [], ◌∷◌, IfSome, Result, Ok}
 use Rattle.basics.specs.Reading.{◌>>=◌}
 use Rattle.basics.specs.declared.fault.Spot.{Spot}
 use Rattle.plist.specs.Values.{PlainValue, get}

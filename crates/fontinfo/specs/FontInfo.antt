@@ -1,9 +1,10 @@
 -- The font information that a property list means (UFO 3, "fontinfo.plist"), or its first fault. Keys are read in
 -- the order of the fields; other keys mean nothing.
-use Rattle.std.specs.Prelude.{ℕ, ℤ, List, Option, Some, None, IfSome, Result, Ok}
+use Rattle.std.specs.Prelude.{◌≤◌, List, Option, Some, None, IfSome, Result, Ok}
 use Rattle.basics.specs.Reading.{◌>>=◌}
 use Rattle.basics.specs.declared.fault.Spot.{Spot}
 use Rattle.plist.specs.Values.{Entry, PlainValue, as_dict}
+use Rattle.font_text.specs.Utf16.{utf16_length}
 use Rattle.fontinfo.specs.declared.info.Info.{Info}
 use Rattle.fontinfo.specs.declared.metrics.Metrics.{Metrics}
 use Rattle.fontinfo.specs.declared.naming.Naming.{Naming}
@@ -82,3 +83,10 @@ pub record AreNumbersWithin (info : Info) : Type 0 where
   pub width_within : IsWithin range.width info.width
   pub underline_at_within : IsWithin range.metric info.underline_at
   pub underline_size_within : IsWithin range.metric info.underline_size
+
+-- the texts of font information take so many units of UTF-16 at most
+pub record AreTextsWithin (info : Info) : Type 0 where
+  pub family_within : utf16_length info.family ≤ 100
+  pub style_within : utf16_length info.style ≤ 100
+  pub copyright_within : IfSome info.copyright (λ text. utf16_length text ≤ 1000)
+  pub version_within : utf16_length info.version ≤ 100

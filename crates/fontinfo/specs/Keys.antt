@@ -1,15 +1,15 @@
 -- The value of one key of `fontinfo.plist` (UFO 3), or its fault. All faults are at 0, and the item is the key, but
 -- for a value of the wrong kind and for units of the em, which have none, and for a tag, whose item is its text.
-use Rattle.std.specs.Prelude.{ℕ, ℤ, pos, int_le, nat_le, ◌&&◌, List, [], Option, Some, None, Result, Ok, Err, if◌then◌else◌}
+use Rattle.std.specs.Prelude.{ℕ, ◌≤◌, ℤ, pos, int_le, nat_le, ◌&&◌, List, [], Option, Some, None, Result, Ok, Err, if◌then◌else◌}
 use Rattle.basics.specs.Reading.{◌>>=◌, spot_of}
 use Rattle.basics.specs.declared.kinds.Kind.{Kind}
-use Rattle.basics.specs.declared.kinds.Kind.TheVariants.{BadTag, NameLength, NotNumber, NotPlist, NotWhole, NumberRange, UnitsRange}
+use Rattle.basics.specs.declared.kinds.Kind.TheVariants.{BadTag, NameLength, NotNumber, NotPlist, NotWhole, NumberRange}
 use Rattle.basics.specs.declared.fault.Spot.{Spot}
 use Rattle.fixpoint.specs.DecimalText.{fix16_of}
 use Rattle.fixpoint.specs.Rounding.{round_up}
 use Rattle.fixpoint.specs.declared.decimal.NumberFault.{NumberFault}
 use Rattle.fixpoint.specs.declared.decimal.NumberFault.TheVariants as number
-use Rattle.plist.specs.Values.{Entry, PlainValue, as_dict, as_number, as_text, get}
+use Rattle.plist.specs.Values.{PlainValue, as_number, as_text, get}
 use Rattle.fontinfo.specs.KeyNames.{key_name}
 use Rattle.fontinfo.specs.declared.key.Key.{Key}
 use Rattle.fontinfo.specs.declared.keys.Range.{Range}
@@ -72,7 +72,10 @@ fixed_or_zero key info = by_key (fixed_of key) (pos 0) (get (key_name key) info)
 
 -- ---- texts
 
--- at most so many units of UTF-16
+-- a text of at most so many units of UTF-16
+abbrev pub IsShort : ℕ → List ℕ → Type 0
+IsShort most text = utf16_length text ≤ most
+
 abbrev pub short : ℕ → Key → List ℕ → Result (List ℕ) Spot
 short most key text = if nat_le (utf16_length text) most then Ok text else Err (spot_of NameLength (key_name key) 0 (pos (utf16_length text)))
 

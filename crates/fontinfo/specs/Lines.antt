@@ -1,5 +1,5 @@
 -- The heights of lines, for the tables `hhea` and `OS/2`.
-use Rattle.std.specs.Prelude.{ℕ, ℤ, pos, List, codes, Result, Ok}
+use Rattle.std.specs.Prelude.{ℤ, pos, Result, Ok}
 use Rattle.basics.specs.Reading.{◌>>=◌}
 use Rattle.basics.specs.declared.fault.Spot.{Spot}
 use Rattle.plist.specs.Values.{PlainValue}

@@ -1,5 +1,5 @@
 -- The units of the em, the heights in them, and the angle.
-use Rattle.std.specs.Prelude.{ℕ, ℤ, pos, neg_ℤ, int_le, ◌*◌, ◌/◌, ◌&&◌, List, [], codes, Result, Ok, Err, if◌then◌else◌}
+use Rattle.std.specs.Prelude.{ℕ, ℤ, pos, neg_ℤ, int_le, ◌*◌, ◌/◌, ◌&&◌, [], Result, Ok, Err, if◌then◌else◌}
 use Rattle.std.specs.Int.RustNames.{unsigned_abs}
 use Rattle.basics.specs.Reading.{◌>>=◌, spot_of}
 use Rattle.basics.specs.declared.kinds.Kind.TheVariants.{UnitsRange}

@@ -1,5 +1,5 @@
 -- What the font is called, its version, and whose it is.
-use Rattle.std.specs.Prelude.{ℕ, ℤ, pos, List, codes, Result, Ok}
+use Rattle.std.specs.Prelude.{pos, codes, IfSome, Result, Ok}
 use Rattle.std.specs.Int.RustNames.{unsigned_abs}
 use Rattle.basics.specs.Reading.{◌>>=◌}
 use Rattle.basics.specs.declared.fault.Spot.{Spot}
@@ -9,7 +9,7 @@ use Rattle.fontinfo.specs.declared.naming.Names.{Names}
 use Rattle.fontinfo.specs.declared.naming.Naming.{Naming}
 use Rattle.fontinfo.specs.declared.naming.Version.{Version}
 use Rattle.fontinfo.specs.declared.key.Key.TheVariants as key
-use Rattle.fontinfo.specs.Keys.{number_or, text_if_there, text_or}
+use Rattle.fontinfo.specs.Keys.{IsShort, number_or, text_if_there, text_or}
 use Rattle.fontinfo.specs.Ranges as range
 use Rattle.fontinfo.specs.Ranges.{IsWithin}
 use Rattle.fontinfo.specs.Version.{version_text}
@@ -42,3 +42,15 @@ naming_of info = do
 pub record IsVersionWithin (numbers : Version) : Type 0 where
   pub major_within : IsWithin range.version numbers.major
   pub minor_within : IsWithin range.version numbers.minor
+
+pub record AreNamesShort (names : Names) : Type 0 where
+  pub family_short : IsShort 100 names.family
+  pub style_short : IsShort 100 names.style
+
+pub record AreLegalShort (legal : Legal) : Type 0 where
+  pub copyright_short : IfSome legal.copyright (IsShort 1000)
+  pub version_short : IsShort 100 legal.version
+
+pub record AreTextsShort (naming : Naming) : Type 0 where
+  pub names_short : AreNamesShort naming.names
+  pub legal_short : AreLegalShort naming.legal

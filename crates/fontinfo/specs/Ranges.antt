@@ -1,5 +1,5 @@
 -- The ranges in which the numbers of font information lie.
-use Rattle.std.specs.Prelude.{ℕ, ℤ, pos, negsuc, ◌≤◌, ◌≤ℤ◌, List, Option, IfSome}
+use Rattle.std.specs.Prelude.{ℤ, pos, negsuc, ◌≤ℤ◌}
 use Rattle.fontinfo.specs.declared.keys.Range.{Range}
 
 -- numbers that 16 bits with a sign hold, the least one aside

@@ -1,5 +1,5 @@
 -- What the tables `hhea`, `OS/2` and `post` say beside the metrics.
-use Rattle.std.specs.Prelude.{ℕ, ℤ, List, Result, Ok}
+use Rattle.std.specs.Prelude.{ℤ, Result, Ok}
 use Rattle.basics.specs.Reading.{◌>>=◌}
 use Rattle.basics.specs.declared.fault.Spot.{Spot}
 use Rattle.plist.specs.Values.{PlainValue}

@@ -1,5 +1,5 @@
 -- Where an underline lies, and how thick it is.
-use Rattle.std.specs.Prelude.{ℕ, ℤ, neg_ℤ, List, codes, Result, Ok}
+use Rattle.std.specs.Prelude.{ℤ, neg_ℤ, Result, Ok}
 use Rattle.basics.specs.Reading.{◌>>=◌}
 use Rattle.basics.specs.declared.fault.Spot.{Spot}
 use Rattle.plist.specs.Values.{PlainValue}

@@ -2,9 +2,9 @@ ghost use Rattle.std.specs.Prelude.{◌≡◌, IfOk, Ok};
 ghost use Rattle.basics.specs.Reading.{Gives};
 ghost use Rattle.plist.specs.Values.{dict, no_entries, plain_value};
 ghost use Rattle.fontinfo.specs.Metrics.{AreMetricsWithin};
-ghost use Rattle.fontinfo.specs.Naming.{IsVersionWithin};
+ghost use Rattle.fontinfo.specs.Naming.{AreTextsShort, IsVersionWithin};
 ghost use Rattle.fontinfo.specs.Tables.{AreTablesWithin};
-ghost use Rattle.fontinfo.specs.FontInfo.{AreNumbersWithin, info_from, info_of, is_dict};
+ghost use Rattle.fontinfo.specs.FontInfo.{AreNumbersWithin, AreTextsWithin, info_from, info_of, is_dict};
 
 use crate::keys::wrong_kind;
 use crate::metrics::{Heights, Metrics, read_metrics};
@@ -76,9 +76,11 @@ pub struct Info {
 fn info_from(metrics: &Metrics, naming: Naming, tables: Tables) -> Info
     requires metrics { AreMetricsWithin metrics.now }
     requires version { IsVersionWithin naming.numbers }
+    requires texts { AreTextsShort naming }
     requires tables { AreTablesWithin tables }
     ensures value { result ≡ info_from metrics.now naming tables }
     ensures within { AreNumbersWithin result }
+    ensures texts { AreTextsWithin result }
 {
     let Names { family, style } = naming.names;
     let Legal { copyright, version } = naming.legal;
@@ -140,6 +142,8 @@ pub fn read(alloc: Global, value: &Value) -> Result<Info, Stop>
     ensures exact { Gives (λ info. info) result (info_of (plain_value value.now)) }
     // The numbers are in their ranges.
     ensures within { IfOk result AreNumbersWithin }
+    // The texts are short enough.
+    ensures texts { IfOk result AreTextsWithin }
 {
     check_dict(alloc, value)?;
     let metrics = read_metrics(alloc, value)?;
@@ -157,7 +161,9 @@ impl Info {
     #[tactic(auto, using(crate::proofs::Plain::plain_is))]
     pub fn plain(alloc: Global) -> Result<Info, NoMemory>
         // It is what an empty dictionary is read as.
-        ensures { IfOk result (λ info. info_of (dict no_entries) ≡ Ok info) }
+        ensures exact { IfOk result (λ info. info_of (dict no_entries) ≡ Ok info) }
+        // Its texts are short enough.
+        ensures texts { IfOk result AreTextsWithin }
     {
         let family = Name::from_str(alloc, "Untitled")?;
         let style = Name::from_str(alloc, "Regular")?;

@@ -4,6 +4,7 @@ ghost use Rattle.basics.specs.declared.kinds.Kind.TheVariants.{NotPlist};
 ghost use Rattle.plist.specs.Values.{as_number, as_text, plain_value};
 ghost use Rattle.fontinfo.specs.KeyNames.{key_name};
 ghost use Rattle.fontinfo.specs.Keys as rules;
+ghost use Rattle.fontinfo.specs.Keys.{IsShort};
 ghost use Rattle.fontinfo.specs.Ranges.{IsWithin};
 
 use crate::key::Key;
@@ -179,7 +180,8 @@ pub(crate) fn fixed_or_zero(alloc: Global, key: Key, info: &Value) -> Result<Fix
 
 /// The text, where it takes at most so many units of UTF-16.
 fn short(alloc: Global, most: usize, key: Key, text: &str) -> Result<Name, Stop>
-    ensures { Gives (λ text. text) result (rules.short most key text.now) }
+    ensures exact { Gives (λ text. text) result (rules.short most key text.now) }
+    ensures short { IfOk result (IsShort most) }
 {
     let units = utf16_length(text);
     if units <= most {
@@ -192,7 +194,8 @@ fn short(alloc: Global, most: usize, key: Key, text: &str) -> Result<Name, Stop>
 /// A text of at most so many units of UTF-16.
 #[tactic(auto, unfolding(crate::specs::Keys::text_of))]
 pub(crate) fn read_text(alloc: Global, most: usize, key: Key, value: &Value) -> Result<Name, Stop>
-    ensures { Gives (λ text. text) result (rules.text_of most key (plain_value value.now)) }
+    ensures exact { Gives (λ text. text) result (rules.text_of most key (plain_value value.now)) }
+    ensures short { IfOk result (IsShort most) }
 {
     let text = own_text(alloc, value)?;
     short(alloc, most, key, text)
@@ -207,7 +210,9 @@ pub(crate) fn text_or(
     key: Key,
     info: &Value,
 ) -> Result<Name, Stop>
-    ensures { Gives (λ text. text) result (rules.text_or most default.now key (plain_value info.now)) }
+    requires { IsShort most default.now }
+    ensures exact { Gives (λ text. text) result (rules.text_or most default.now key (plain_value info.now)) }
+    ensures short { IfOk result (IsShort most) }
 {
     match info.get(key.name()) {
         Some(value) => read_text(alloc, most, key, value),
@@ -223,7 +228,8 @@ pub(crate) fn text_if_there(
     key: Key,
     info: &Value,
 ) -> Result<Option<Name>, Stop>
-    ensures { Gives (λ text. text) result (rules.text_if_there most key (plain_value info.now)) }
+    ensures exact { Gives (λ text. text) result (rules.text_if_there most key (plain_value info.now)) }
+    ensures short { IfOk result (λ text. IfSome text (IsShort most)) }
 {
     match info.get(key.name()) {
         Some(value) => Ok(Some(read_text(alloc, most, key, value)?)),

@@ -2,7 +2,7 @@ ghost use Rattle.std.specs.Prelude.{◌≡◌, IfOk};
 ghost use Rattle.basics.specs.Reading.{Gives};
 ghost use Rattle.plist.specs.Values.{plain_value};
 ghost use Rattle.fontinfo.specs.Naming as rules;
-ghost use Rattle.fontinfo.specs.Naming.{IsVersionWithin};
+ghost use Rattle.fontinfo.specs.Naming.{AreLegalShort, AreNamesShort, AreTextsShort, IsVersionWithin};
 
 use crate::key::Key;
 use crate::keys::{NAME_UNITS, Range, number_or, text_if_there, text_or};
@@ -59,9 +59,10 @@ const VERSION: Range = Range {
 const COPYRIGHT_UNITS: usize = 1000;
 
 /// What the font is called.
-#[tactic(auto, unfolding(crate::specs::Naming::names_of))]
+#[tactic(auto, using(crate::proofs::Short::untitled_short, crate::proofs::Short::regular_short), unfolding(crate::specs::Naming::names_of))]
 fn read_names(alloc: Global, info: &Value) -> Result<Names, Stop>
-    ensures { Gives (λ names. names) result (rules.names_of (plain_value info.now)) }
+    ensures exact { Gives (λ names. names) result (rules.names_of (plain_value info.now)) }
+    ensures short { IfOk result AreNamesShort }
 {
     let family = text_or(alloc, NAME_UNITS, "Untitled", Key::FamilyName, info)?;
     let style = text_or(alloc, NAME_UNITS, "Regular", Key::StyleName, info)?;
@@ -82,7 +83,9 @@ fn read_version(alloc: Global, info: &Value) -> Result<Version, Stop>
 /// Whose the font is, and its version as a text.
 #[tactic(auto, unfolding(crate::specs::Naming::legal_of))]
 fn read_legal(alloc: Global, numbers: Version, info: &Value) -> Result<Legal, Stop>
-    ensures { Gives (λ legal. legal) result (rules.legal_of numbers (plain_value info.now)) }
+    requires { IsVersionWithin numbers }
+    ensures exact { Gives (λ legal. legal) result (rules.legal_of numbers (plain_value info.now)) }
+    ensures short { IfOk result AreLegalShort }
 {
     let copyright = text_if_there(alloc, COPYRIGHT_UNITS, Key::Copyright, info)?;
     let made = version_text(
@@ -99,6 +102,7 @@ fn read_legal(alloc: Global, numbers: Version, info: &Value) -> Result<Legal, St
 pub(crate) fn read_naming(alloc: Global, info: &Value) -> Result<Naming, Stop>
     ensures exact { Gives (λ naming. naming) result (rules.naming_of (plain_value info.now)) }
     ensures within { IfOk result (λ naming. IsVersionWithin naming.numbers) }
+    ensures short { IfOk result AreTextsShort }
 {
     let names = read_names(alloc, info)?;
     let numbers = read_version(alloc, info)?;

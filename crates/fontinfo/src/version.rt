@@ -1,4 +1,5 @@
-ghost use Rattle.std.specs.Prelude.{◌≡◌, IfOk};
+ghost use Rattle.std.specs.Prelude.{◌≡◌, ◌≤◌, IfOk};
+ghost use Rattle.fontinfo.specs.Keys.{IsShort};
 ghost use Rattle.fontinfo.specs.Version.{version_text};
 
 use basics::{Name, NoMemory};
@@ -6,9 +7,12 @@ use std::alloc::Global;
 
 /// The version that stands where none is written: `Version `, the major number, a point, and the minor number in
 /// three digits.
-#[tactic(auto, unfolding(crate::specs::Version::version_text))]
+#[tactic(auto, using(crate::proofs::Short::version_short), unfolding(crate::specs::Version::version_text))]
 pub(crate) fn version_text(alloc: Global, major: u32, minor: u32) -> Result<Name, NoMemory>
-    ensures { IfOk result (λ text. text ≡ version_text major minor) }
+    requires major { major ≤ 999 }
+    requires minor { minor ≤ 999 }
+    ensures exact { IfOk result (λ text. text ≡ version_text major minor) }
+    ensures short { IfOk result (IsShort 100) }
 {
     let hundreds = minor / 100;
     let tens = minor / 10 % 10;

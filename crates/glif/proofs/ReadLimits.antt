@@ -1,12 +1,16 @@
 -- What is read off a tree is within limits.
-use Rattle.std.proofs.Common.{◌≡◌, ℕ, ◌≤◌, ℤ, pos, Bool, true, false, List, [], ◌∷◌, length, filter, codes, Option, Some, None, Ok, subst, arith}
-use Rattle.std.specs.Prelude.{All, IfOk, MatchOption, Result, sum_by, nat_le, unwrap_or}
+use Rattle.std.proofs.Common.{◌≡◌, ℕ, ◌≤◌, ◌<◌, ◌&&◌, ℤ, pos, Bool, true, false, List, [], ◌∷◌, ◌++◌, length, filter, codes, get_or, Option, Some, None, Ok, refl, subst, arith}
+use Rattle.std.specs.Prelude.{All, IfOk, MatchOption, Result, sum_by, nat_le, unwrap_or, ◌==◌, if◌then◌else◌}
+use Rattle.std.specs.List.{list_any}
+use Rattle.std.specs.Str.Parse.{digits_value}
 use Rattle.std.proofs.lemmas.Int.{ints}
-use Rattle.std.proofs.lemmas.Bool.Decides.{nat_tests}
-use Rattle.std.proofs.lemmas.List.Elements.{All-nil, All-cons, All-append}
+use Rattle.std.proofs.lemmas.Bool.Decides.{Decides-eqb, nat_tests}
+use Rattle.std.proofs.lemmas.List.Elements.{All-nil, All-cons, All-append, All-push}
+use Rattle.std.proofs.lemmas.List.Folds.{list_any_at}
+use Rattle.std.proofs.lemmas.List.Quantifiers.{all_pairs_push}
 use Rattle.basics.specs.Reading.{each, in_turn}
 use Rattle.basics.specs.declared.fault.Spot.{Spot}
-use Rattle.markup_rules.specs.Tree.{Tree, children_of, is_named}
+use Rattle.markup_rules.specs.Tree.{Tree, attribute_of, children_of, is_named}
 use Rattle.glif.specs.declared.shape.Component.{Component}
 use Rattle.glif.specs.declared.shape.Drawing.{Drawing}
 use Rattle.glif.specs.declared.shape.Point.{Point}
@@ -19,8 +23,8 @@ use Rattle.attributes.proofs.Within.{IsNoneOrWithin, optional_whole_within, whol
 use Rattle.glif.specs.Numbers.{advance_widths, coordinate, coordinates, offset, width}
 use Rattle.glif.specs.Components.{component_of, matrix}
 use Rattle.glif.specs.Contours.{closed, contour_of, ends_on, is_passed_over, line_after_off, lined, on_by, point_elements, point_of, points_of, starts_with_move, type_of}
-use Rattle.glif.specs.Glyphs.{advance_seen, child_of, code_of, drawing_of, drawn, few, format_of, no_shapes, nothing_seen, outline_of, outline_seen, shape_of, with_component, with_contour}
-use Rattle.glif.specs.Limits.{IsContourWithin, IsOffsetWithin, IsPointWithin, IsWithinLimits}
+use Rattle.glif.specs.Glyphs.{advance_seen, child_of, code_by, code_of, drawing_of, drawn, few, format_of, is_code, is_hexadecimal, no_shapes, nothing_seen, outline_of, outline_seen, shape_of, with_code, with_component, with_contour}
+use Rattle.glif.specs.Limits.{AreDistinct, IsCodePoint, IsContourWithin, IsOffsetWithin, IsPointWithin, IsWithinLimits}
 
 -- ---- numbers
 
@@ -150,35 +154,83 @@ unfolding outline_of
 outline_ok tree =
     then_ok AreShapes AreFew (in_turn shape_of no_shapes (children_of tree)) _ (in_turn_ok AreShapes shape_of shape_ok no_shapes (children_of tree) no_shapes_within) (few_ok tree)
 
+-- ---- code points
+
+code_point : (code : ℕ) → is_code code ≡ true → IsCodePoint code
+code_point code is = record {
+  greatest = grind (arith, nat_tests);
+  no_surrogate = λ least. grind (arith, nat_tests);
+  named = λ same. grind (arith, nat_tests);
+}
+
+both : (a b : Bool) → (a && b) ≡ true → b ≡ true
+both true b is = is
+both false b is = cc
+
+code_by_ok : (tree : Tree) (text : Option (List ℕ)) → IfOk (code_by tree text) IsCodePoint
+code_by_ok tree None = tt
+code_by_ok tree (Some text) =
+    chosen IsCodePoint (is_hexadecimal text && is_code (digits_value 16 text)) _ _
+    (λ tested. code_point (digits_value 16 text) (both (is_hexadecimal text) (is_code (digits_value 16 text)) tested)) (λ _. tt)
+
+code_ok : (tree : Tree) → IfOk (code_of tree) IsCodePoint
+unfolding code_of
+code_ok tree = code_by_ok tree (attribute_of (codes "hex") tree)
+
+-- code points that stand once each
+record AreCodePoints (points : List ℕ) : Type 0 where
+  codes : All IsCodePoint points
+  once : AreDistinct points
+
+no_codes : AreCodePoints []
+no_codes = record { codes = All-nil IsCodePoint; once = λ i j d before less. absurd (omega arith) }
+
+apart : (points : List ℕ) (code : ℕ) → list_any (λ other. other == code) points ≡ false → (k d : ℕ) → k < length points → get_or points k d ≡ code → ⊥
+apart points code none k d less same = cc (list_any_at (λ other. other == code) points k d less ((Decides-eqb (get_or points k d) code).1 same), none)
+
+chosen_codes : (b : Bool) (points : List ℕ) (code : ℕ) → list_any (λ other. other == code) points ≡ b → AreCodePoints points → IsCodePoint code → AreCodePoints (if b then points else points ++ code ∷ [])
+chosen_codes true points code among before is = before
+chosen_codes false points code among before is = record {
+  codes = All-push IsCodePoint points code before.codes is;
+  once = all_pairs_push (λ earlier later. earlier ≡ later → ⊥) points code before.once (apart points code among);
+}
+
+with_code_ok : (points : List ℕ) (code : ℕ) → AreCodePoints points → IsCodePoint code → AreCodePoints (with_code points code)
+with_code_ok points code before is = chosen_codes (list_any (λ other. other == code) points) points code refl before is
+
 -- ---- glyphs
 
 record IsSeen (seen : Seen) : Type 0 where
   wide : MatchOption seen.width (Unit {0}) (IsWithin advance_widths)
+  points : AreCodePoints seen.codes
   drawn : MatchOption seen.shapes (Unit {0}) AreFew
 
 advance_ok : (tree : Tree) (seen : Seen) (width : Option ℤ) → IsSeen seen → IfOk (advance_seen tree seen width) IsSeen
 advance_ok tree seen (Some width) before = before
 advance_ok tree seen None before =
     then_ok (IsWithin advance_widths) IsSeen (width tree) _ (width_ok tree)
-    (λ units within. record { wide = within; drawn = before.drawn })
+    (λ units within. record { wide = within; points = before.points; drawn = before.drawn })
 
 outline_seen_ok : (tree : Tree) (seen : Seen) (shapes : Option Shapes) → IsSeen seen → IfOk (outline_seen tree seen shapes) IsSeen
 outline_seen_ok tree seen (Some shapes) before = tt
 outline_seen_ok tree seen None before =
-    then_ok AreFew IsSeen (outline_of tree) _ (outline_ok tree) (λ shapes within. record { wide = before.wide; drawn = within })
+    then_ok AreFew IsSeen (outline_of tree) _ (outline_ok tree) (λ shapes within. record { wide = before.wide; points = before.points; drawn = within })
 
 child_ok : (seen : Seen) (tree : Tree) → IsSeen seen → IfOk (child_of seen tree) IsSeen
 unfolding child_of
 child_ok seen tree before =
     chosen IsSeen (is_named (codes "advance") tree) _ _ (λ _. advance_ok tree seen seen.width before)
     (λ _. chosen IsSeen (is_named (codes "unicode") tree) _ _
-    (λ _. after_any IsSeen (code_of tree) _ (λ code. record { wide = before.wide; drawn = before.drawn }))
+    (λ _. then_ok IsCodePoint IsSeen (code_of tree) _ (code_ok tree)
+    (λ code is. record { wide = before.wide; points = with_code_ok seen.codes code before.points is; drawn = before.drawn }))
     (λ _. chosen IsSeen (is_named (codes "outline") tree) _ _ (λ _. outline_seen_ok tree seen seen.shapes before) (λ _. before)))
 
--- a drawing whose outline and offsets are within limits
+-- a drawing whose outline and offsets are within limits, and its code points too, each of which stands once
 pub record IsDrawnWithin (drawing : Drawing) : Type 0 where
   pub outline : IsWithinLimits drawing.outline
   pub offsets : All IsOffsetWithin drawing.components
+  pub codes : All IsCodePoint drawing.codes
+  pub once : AreDistinct drawing.codes
 
 shapes_within : (shapes : Option Shapes) → MatchOption shapes (Unit {0}) AreFew → AreFew (unwrap_or shapes no_shapes)
 shapes_within None drawn = record { shown = no_shapes_within; points = omega arith }
@@ -191,6 +243,8 @@ drawn_within name seen within =
     record {
       outline = record { least_advance = wide.least; greatest_advance = wide.greatest; contours_within = shapes.shown.contours; points = shapes.points };
       offsets = shapes.shown.components;
+      codes = within.points.codes;
+      once = within.points.once;
     }
 
 drawing_ok : (tree : Tree) → IfOk (drawing_of tree) IsDrawnWithin
@@ -200,7 +254,7 @@ drawing_ok tree =
     (λ _. after_any IsDrawnWithin (format_of tree) _
     (λ _. after_any IsDrawnWithin (needed (codes "name") tree) _
     (λ name. then_ok IsSeen IsDrawnWithin (in_turn child_of nothing_seen (children_of tree)) _
-    (in_turn_ok IsSeen child_of child_ok nothing_seen (children_of tree) (record { wide = tt; drawn = tt }))
+    (in_turn_ok IsSeen child_of child_ok nothing_seen (children_of tree) (record { wide = tt; points = no_codes; drawn = tt }))
     (λ seen within. drawn_within name seen within))))
     (λ _. tt)
 

@@ -1,5 +1,6 @@
--- The limits of an outline that can be built: of its numbers, and of how many points it has.
-use Rattle.std.specs.Prelude.{◌≤◌, pos, negsuc, ◌≤ℤ◌, List, length, All, sum_by}
+-- The limits of an outline that can be built: of its numbers, and of how many points it has. And those of code points.
+use Rattle.std.specs.Prelude.{ℕ, ◌≤◌, ◌<◌, ◌≢◌, pos, negsuc, ◌≤ℤ◌, List, length, All, sum_by}
+use Rattle.std.specs.List.{AllPairs}
 use Rattle.glif.specs.declared.shape.Point.{Point}
 use Rattle.glif.specs.declared.shape.Outline.{Outline}
 use Rattle.glif.specs.declared.shape.Component.{Component}
@@ -30,3 +31,13 @@ pub record IsOffsetWithin (component : Component) : Type 0 where
   pub greatest_x : component.dx ≤ℤ pos 16383
   pub least_y : negsuc 16383 ≤ℤ component.dy
   pub greatest_y : component.dy ≤ℤ pos 16383
+
+-- a code point that a `unicode` may tell: up to 0x10FFFF, no surrogate, which are 0xD800 .. 0xDFFF, and not 0xFFFF
+pub record IsCodePoint (code : ℕ) : Type 0 where
+  pub greatest : code ≤ 0x10FFFF
+  pub no_surrogate : 0xD800 ≤ code → 0xDFFF < code
+  pub named : code ≢ 0xFFFF
+
+-- no two of a list are equal
+abbrev pub AreDistinct : {A : Type 0} → List A → Type 0
+AreDistinct list = AllPairs (λ earlier later. earlier ≢ later) list

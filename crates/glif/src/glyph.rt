@@ -3,7 +3,7 @@ ghost use Rattle.basics.specs.Reading.{Gives, in_turn};
 ghost use Rattle.markup_rules.specs.Tree.{attribute_of};
 ghost use Rattle.markup.specs.Plain.{plain};
 ghost use Rattle.glif.specs.Glyphs.{advance_seen, child_of, drawing_of, drawn, format_of, is_version, nothing_seen, outline_seen, version_of};
-ghost use Rattle.glif.specs.Limits.{IsOffsetWithin, IsWithinLimits};
+ghost use Rattle.glif.specs.Limits.{AreDistinct, IsCodePoint, IsOffsetWithin, IsWithinLimits};
 ghost use Rattle.glif.specs.declared.shape.Drawing.{Drawing};
 
 use crate::code::{Codes, read_code};
@@ -217,6 +217,8 @@ pub fn read(alloc: Global, tree: &Element) -> Result<Drawing, Stop>
     // What is read is within limits.
     ensures limits { IfOk result (λ drawing. IsWithinLimits drawing.outline) }
     ensures offsets { IfOk result (λ (drawing : Drawing). All IsOffsetWithin drawing.components) }
+    ensures codes { IfOk result (λ (drawing : Drawing). All IsCodePoint drawing.codes) }
+    ensures once { IfOk result (λ (drawing : Drawing). AreDistinct drawing.codes) }
 {
     read_drawing(alloc, tree)
 }

@@ -1,5 +1,5 @@
 -- A step that reads, and one after it that doesn't.
-use Rattle.std.proofs.Common.{◌≡◌, ◌≤◌, ℕ, List, Result, Ok, Err, sym, subst}
+use Rattle.std.proofs.Common.{◌≤◌, ℕ, List, Result, Ok, Err, sym, subst}
 use Rattle.outside.specs.States.{SourcesState}
 use Rattle.basics.specs.Reading.{◌>>=◌}
 use Rattle.basics.specs.declared.fault.Fault.{Fault}

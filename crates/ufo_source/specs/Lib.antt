@@ -8,3 +8,4 @@ pub mod Contents
 pub mod Naming
 pub mod Glyphs
 pub mod Folders
+pub mod Limits

@@ -1,5 +1,5 @@
 -- Where the files of a folder are, and which names lead out of it.
-use Rattle.std.specs.Prelude.{◌≡◌, ℕ, pos, Bool, ◌||◌, List, [], ◌∷◌, ◌++◌, length, codes, Result, Ok, Err, ◌==◌, if◌then◌else◌}
+use Rattle.std.specs.Prelude.{◌≡◌, ℕ, pos, Bool, ◌||◌, List, ◌∷◌, ◌++◌, length, codes, Result, Ok, Err, ◌==◌, if◌then◌else◌}
 use Rattle.std.specs.List.{list_any}
 use Rattle.std.specs.Str.{bytes_eq}
 use Rattle.basics.specs.Reading.{spot_of}

@@ -6,6 +6,7 @@ ghost use Rattle.source_files.specs.Stops.{Answers, NeverFails, Reads};
 ghost use Rattle.source_files.specs.Trees.{in_file};
 ghost use Rattle.ufo_source.specs.Contents as rules;
 ghost use Rattle.ufo_source.specs.Contents.{all_contents_at, contents_at, contents_name, contents_of, contents_path, entries_among, entry_of, few_glyphs, glyph_count, glyph_name, glyph_names, is_glyph_name, is_name_byte, is_notdef};
+ghost use Rattle.ufo_source.specs.Limits.{AreGlyphNames};
 ghost use Rattle.ufo_source.specs.Paths.{IsIn};
 
 use crate::paths::{in_folder, path_in};
@@ -205,7 +206,8 @@ pub(crate) fn read_all_contents<S: Sources>(
     folder: &str,
     layer: &str,
 ) -> Result<Seq<(Name, Name)>, ReadStop>
-    ensures { Reads (S.state sources.old) (S.state sources.new) (IsIn folder.now) (Answers (λ entries. entries) result (all_contents_at (S.state sources.old).files folder.now layer.now)) result }
+    ensures exact { Reads (S.state sources.old) (S.state sources.new) (IsIn folder.now) (Answers (λ entries. entries) result (all_contents_at (S.state sources.old).files folder.now layer.now)) result }
+    ensures names { IfOk result (λ entries. AreGlyphNames (map (λ entry. entry.0) entries)) }
 {
     let entries = read_contents(alloc, sources, folder, layer)?;
     check_names(alloc, folder, layer, entries.as_slice())?;

@@ -1,6 +1,7 @@
-ghost use Rattle.std.specs.Prelude.{◌≡◌, map, option_map, IfOk};
+ghost use Rattle.std.specs.Prelude.{◌≡◌, map, option_map, IfOk, IfNone, IfSome};
 ghost use Rattle.source_files.specs.Stops.{Answers, Reads};
 ghost use Rattle.ufo_source.specs.Folders.{master_at, part_at, whole_at};
+ghost use Rattle.ufo_source.specs.Limits.{IsMasterWithin, IsPartOf, IsWhole};
 ghost use Rattle.ufo_source.specs.Paths.{IsIn};
 
 use crate::contents::{read_all_contents, read_contents};
@@ -62,7 +63,9 @@ fn read_whole<S: Sources>(
     folder: &str,
     name: Option<&str>,
 ) -> Result<Master, ReadStop>
-    ensures { Reads (S.state sources.old) (S.state sources.new) (IsIn folder.now) (Answers (λ master. master) result (whole_at (S.state sources.old).files folder.now (option_map (λ name. name.now) name.entry))) result }
+    ensures exact { Reads (S.state sources.old) (S.state sources.new) (IsIn folder.now) (Answers (λ master. master) result (whole_at (S.state sources.old).files folder.now (option_map (λ name. name.now) name.entry))) result }
+    ensures within { IfOk result IsMasterWithin }
+    ensures whole { IfOk result IsWhole }
 {
     read_metainfo(alloc, sources, folder)?;
     let info = read_info(alloc, sources, folder)?;
@@ -88,7 +91,9 @@ fn read_part<S: Sources>(
     name: Option<&str>,
     wanted: &Seq<Name>,
 ) -> Result<Master, ReadStop>
-    ensures { Reads (S.state sources.old) (S.state sources.new) (IsIn folder.now) (Answers (λ master. master) result (part_at (S.state sources.old).files folder.now (option_map (λ name. name.now) name.entry) wanted.now)) result }
+    ensures exact { Reads (S.state sources.old) (S.state sources.new) (IsIn folder.now) (Answers (λ master. master) result (part_at (S.state sources.old).files folder.now (option_map (λ name. name.now) name.entry) wanted.now)) result }
+    ensures within { IfOk result IsMasterWithin }
+    ensures wanted { IfOk result (IsPartOf wanted.now) }
 {
     read_metainfo(alloc, sources, folder)?;
     let info = read_info(alloc, sources, folder)?;
@@ -153,7 +158,11 @@ pub fn read<S: Sources>(
     layer: Option<&str>,
     wanted: Option<&Seq<Name>>,
 ) -> Result<Master, ReadStop>
-    ensures { Reads (S.state sources.old) (S.state sources.new) (IsIn folder.now) (Answers (λ master. master) result (master_at (S.state sources.old).files folder.now (option_map (λ name. name.now) layer.entry) (option_map (λ names. names.now) wanted.entry))) result }
+    ensures exact { Reads (S.state sources.old) (S.state sources.new) (IsIn folder.now) (Answers (λ master. master) result (master_at (S.state sources.old).files folder.now (option_map (λ name. name.now) layer.entry) (option_map (λ names. names.now) wanted.entry))) result }
+    // What holds whatever the sources tell: of each source, of a whole one, and where some glyphs are wanted.
+    ensures within { IfOk result IsMasterWithin }
+    ensures whole { IfNone wanted.entry (IfOk result IsWhole) }
+    ensures wanted { IfSome wanted.entry (λ names. IfOk result (IsPartOf names.now)) }
 {
     match wanted {
         None => read_whole(alloc, sources, folder, layer),

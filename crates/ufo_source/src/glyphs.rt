@@ -1,10 +1,11 @@
-ghost use Rattle.std.specs.Prelude.{◌≡◌};
+ghost use Rattle.std.specs.Prelude.{◌≡◌, map, IfOk};
 ghost use Rattle.basics.specs.Reading.{Gives};
 ghost use Rattle.source_files.specs.Stops.{Answers, NeverFails, Reads};
 ghost use Rattle.source_files.specs.Trees as trees;
 ghost use Rattle.ufo_source.specs.Contents.{contents_path};
 ghost use Rattle.ufo_source.specs.Glyphs as rules;
 ghost use Rattle.ufo_source.specs.Glyphs.{all_glyphs, drawing_at, glyph_at, new_codes, with_glyph};
+ghost use Rattle.ufo_source.specs.Limits.{AddsGlyph, AreAllGlyphs, IsDrawingWithin};
 ghost use Rattle.ufo_source.specs.Paths as paths;
 ghost use Rattle.ufo_source.specs.Paths.{IsIn, path_in};
 
@@ -20,7 +21,8 @@ use std::alloc::Global;
 /// Reads the drawing of the GLIF at `path`.
 #[tactic(auto, using(source_files::proofs::InFile::answers_in_file), unfolding(crate::specs::Glyphs::drawing_at))]
 fn read_at<S: Sources>(alloc: Global, sources: &mut S, path: &str) -> Result<Drawing, ReadStop>
-    ensures { Reads (S.state sources.old) (S.state sources.new) (λ named. named ≡ path.now) (Answers (λ drawing. drawing) result (drawing_at (S.state sources.old).files path.now)) result }
+    ensures exact { Reads (S.state sources.old) (S.state sources.new) (λ named. named ≡ path.now) (Answers (λ drawing. drawing) result (drawing_at (S.state sources.old).files path.now)) result }
+    ensures within { IfOk result IsDrawingWithin }
 {
     let tree = read_tree(alloc, sources, path)?;
     in_file(alloc, path, glif::read(alloc, &tree))
@@ -33,7 +35,8 @@ fn read_drawing<S: Sources>(
     folder: &str,
     name: &str,
 ) -> Result<Drawing, ReadStop>
-    ensures { Reads (S.state sources.old) (S.state sources.new) (IsIn folder.now) (Answers (λ drawing. drawing) result (drawing_at (S.state sources.old).files (path_in folder.now name.now))) result }
+    ensures exact { Reads (S.state sources.old) (S.state sources.new) (IsIn folder.now) (Answers (λ drawing. drawing) result (drawing_at (S.state sources.old).files (path_in folder.now name.now))) result }
+    ensures within { IfOk result IsDrawingWithin }
 {
     let path = path_in(alloc, folder, name)?;
     read_at(alloc, sources, path.as_str())
@@ -50,7 +53,7 @@ fn check_file(alloc: Global, folder: &str, layer: &str, file: &str) -> Result<()
 }
 
 /// Reads the glyph of an entry of the layer's contents, which names it, whatever the file calls it.
-#[tactic(auto, unfolding(crate::specs::Glyphs::glyph_at))]
+#[tactic(auto, using(crate::proofs::Drawings::renamed), unfolding(crate::specs::Glyphs::glyph_at))]
 pub(crate) fn read_glyph<S: Sources>(
     alloc: Global,
     sources: &mut S,
@@ -58,7 +61,9 @@ pub(crate) fn read_glyph<S: Sources>(
     layer: &str,
     entry: &(Name, Name),
 ) -> Result<Drawing, ReadStop>
-    ensures { Reads (S.state sources.old) (S.state sources.new) (IsIn folder.now) (Answers (λ drawing. drawing) result (glyph_at (S.state sources.old).files folder.now layer.now entry.now)) result }
+    ensures exact { Reads (S.state sources.old) (S.state sources.new) (IsIn folder.now) (Answers (λ drawing. drawing) result (glyph_at (S.state sources.old).files folder.now layer.now entry.now)) result }
+    ensures within { IfOk result IsDrawingWithin }
+    ensures named { IfOk result (λ drawing. drawing.name ≡ entry.now.0) }
 {
     check_file(alloc, folder, layer, entry.1.as_str())?;
     let file = path_in(alloc, layer, entry.1.as_str())?;
@@ -104,7 +109,8 @@ fn with_glyph<S: Sources>(
     glyphs: Glyphs,
     entry: &(Name, Name),
 ) -> Result<Glyphs, ReadStop>
-    ensures { Reads (S.state sources.old) (S.state sources.new) (IsIn folder.now) (Answers (λ glyphs. glyphs) result (rules.with_glyph (S.state sources.old).files folder.now layer.now glyphs entry.now)) result }
+    ensures exact { Reads (S.state sources.old) (S.state sources.new) (IsIn folder.now) (Answers (λ glyphs. glyphs) result (rules.with_glyph (S.state sources.old).files folder.now layer.now glyphs entry.now)) result }
+    ensures adds { IfOk result (AddsGlyph entry.now.0 glyphs) }
 {
     let drawing = read_glyph(alloc, sources, folder, layer, entry)?;
     check_new(alloc, folder, &glyphs, &drawing)?;
@@ -119,7 +125,8 @@ pub(crate) fn read_glyphs<S: Sources>(
     layer: &str,
     entries: &[(Name, Name)],
 ) -> Result<Seq<Option<Drawing>>, ReadStop>
-    ensures { Reads (S.state sources.old) (S.state sources.new) (IsIn folder.now) (Answers (λ glyphs. glyphs) result (all_glyphs (S.state sources.old).files folder.now layer.now entries.now)) result }
+    ensures exact { Reads (S.state sources.old) (S.state sources.new) (IsIn folder.now) (Answers (λ glyphs. glyphs) result (all_glyphs (S.state sources.old).files folder.now layer.now entries.now)) result }
+    ensures all { IfOk result (AreAllGlyphs (map (λ entry. entry.0) entries.now)) }
 {
     let mut glyphs = Glyphs::new(alloc);
     for entry in entries {

@@ -166,6 +166,15 @@ const ASKED: [(&str, &str); 4] = [
     ("glyphs", "u NoLayer glyphs 0 0"),
 ];
 
+/// Whether `.notdef` is among the glyphs, how many others there are, and what a source is refused for: too many, where
+/// there are more than 32,510 with a `.notdef` that is made, or else for the file of the first, which isn't there.
+const COUNTS: [(bool, u32, &str); 4] = [
+    (true, 32_509, "u/glyphs/n MissingFile  0 0"),
+    (false, 32_509, "u/glyphs/g MissingFile  0 0"),
+    (true, 32_510, "u TooManyGlyphs  0 32511"),
+    (false, 32_510, "u TooManyGlyphs  0 32511"),
+];
+
 /// A source that would be refused if it were read whole: its order is no dictionary, a name isn't one that a font can
 /// hold, two glyphs have one code point, and a glyph that isn't wanted has no file.
 const OTHER: &str = "lib.plist=[ ]|glyphs/contents.plist={ !a 'a.glif !\t 'a.glif !d '.. }";
@@ -270,6 +279,19 @@ fn memory(alloc: Global, written: &str, failing: &[u64]) -> Result<MemorySources
     Ok(MemorySources::new(files, failing))
 }
 
+/// A list of glyphs, as it is written above: perhaps `.notdef`, and so many others.
+fn glyph_list(alloc: Global, has_notdef: bool, others: u32) -> Result<String, NoMemory> {
+    let mut written = String::from_str(alloc, "glyphs/contents.plist={")?;
+    if has_notdef {
+        written.push_str(" !.notdef 'n")?;
+    }
+    for number in 0..others {
+        write!(written, " !g{number} 'g")?;
+    }
+    written.push_str(" }")?;
+    Ok(written)
+}
+
 /// The names.
 fn names_of(alloc: Global, texts: &[&'static str]) -> Result<Seq<Name>, NoMemory> {
     let mut names = Seq::new(alloc);
@@ -363,6 +385,18 @@ fn reads_lists(rt: HostRuntime) -> Result<(), Fail> {
 #[test]
 fn reads_glyphs(rt: HostRuntime) -> Result<(), Fail> {
     check_rows(&rt, rt.alloc(), &GLYPHS)
+}
+
+#[test]
+fn counts_glyphs(rt: HostRuntime) -> Result<(), Fail> {
+    let alloc = rt.alloc();
+    for (has_notdef, others, want) in COUNTS {
+        let written = glyph_list(alloc, has_notdef, others)?;
+        let mut sources = memory(alloc, written.as_str(), &[])?;
+        let found = outcome(alloc, read(alloc, &mut sources, "u", None, None))?;
+        assert_eq!(rt; found.as_str(), want);
+    }
+    Ok(())
 }
 
 #[test]

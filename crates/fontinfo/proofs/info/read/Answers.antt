@@ -1,4 +1,4 @@
-use Rattle.std.proofs.Common.{◌≡◌, Ok, refl, rules}
+use Rattle.std.proofs.Common.{◌≡◌, Ok, rules}
 use Rattle.plist.specs.Values.{plain_value}
 use Rattle.fontinfo.specs.FontInfo.{info_of}
 use Rattle.fontinfo.specs.Tables.{tables_of}

@@ -7,8 +7,8 @@ use Rattle.ufo_source.specs.PropertyLists.{value_or_empty}
 use Rattle.ufo_source.proofs.Then.{reads_then}
 use Rattle.ufo_source.proofs.information.read_info.Goals as goal
 
-pub returns : goal.returns
+pub returns-clause-exact : goal.returns-clause-exact
 unfolding info_at
-returns g c =
+returns-clause-exact g c =
     reads_then _ _ (IsIn c.args.folder.now) plain_value (λ info. info) (value_or_empty (g.S.Sources.state c.args.sources.now).files (fontinfo_path c.args.folder.now)) (λ value. in_file (fontinfo_path c.args.folder.now) (info_of value))
     c.in_ok-value.value c.info_in.result c.in_ok-value.ensures c.info_in.ensures.answers c.info_in.ensures.never
