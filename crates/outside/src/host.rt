@@ -1,4 +1,4 @@
-ghost use Rattle.std.specs.Prelude.{◌≡◌, [], None, Some, IfOk, IsSome, is_ok, is_some, if◌then◌else◌};
+ghost use Rattle.std.specs.Prelude.{◌≡◌, ◌<◌, [], None, Some, IfOk, IsSome, is_ok, is_some, if◌then◌else◌, vec_len};
 ghost use Rattle.outside.specs.Counting.{count_after};
 ghost use Rattle.outside.specs.Answered.{count_after_read};
 ghost use Rattle.outside.specs.Found.{IsWithin};
@@ -14,32 +14,60 @@ use std::{fs, io};
 /// The files of the host, to read from. A path that isn't found is absent. Each other fault of opening
 /// or of reading is a failure, and so is a file beyond the limit with more than 4,294,967,296 bytes.
 ///
-/// It tells nothing of what the files hold. Besides the bytes within the limit a read holds a buffer of
-/// some thousand.
+/// It tells nothing of what the files hold. Besides the bytes within the limit it holds a buffer of 65,536, from the
+/// first read on.
 #[derive(Drop)]
 pub struct HostSources<R: Files> {
     rt: R,
+    buffer: Option<Vec<u8>>,
     faults: u64,
 }
+
+/// How many bytes a read asks for.
+const BUFFER_SIZE: usize = 65_536;
 
 impl<R: Files> HostSources<R> {
     /// The files that `rt` reaches, with no failure so far.
     pub fn new(rt: R) -> HostSources<R>
         ensures { result.faults ≡ 0 }
     {
-        HostSources { rt, faults: 0 }
+        HostSources {
+            rt,
+            buffer: None,
+            faults: 0,
+        }
     }
-}
 
-// Reads one file of the host.
-fn read_file<R: Files>(rt: &R, alloc: Global, path: &str, limit: usize) -> Result<Found, ReadError>
-    ensures within { IfOk result (IsWithin limit) }
-    ensures counted { IfOk result IsCounted }
-{
-    match fs::open(rt, path) {
-        Ok(mut file) => read_within(&mut file, alloc, limit),
-        Err(error) if error.kind() == ErrorKind::NotFound => Ok(Found::Absent),
-        Err(_) => Err(ReadError::Failed),
+    // The buffer, made where there is none yet.
+    fn take_buffer(&mut self, alloc: Global) -> Result<Vec<u8>, ReadError>
+        ensures some { IfOk result (λ buffer. 0 < vec_len buffer) }
+        ensures faults { self.new.faults ≡ self.old.faults }
+    {
+        match self.buffer.take() {
+            Some(buffer) if !buffer.is_empty() => Ok(buffer),
+            _ => match vec![in alloc; 0; BUFFER_SIZE] {
+                Ok(buffer) => Ok(buffer),
+                Err(_) => Err(ReadError::NoMemory),
+            },
+        }
+    }
+
+    // Reads one file of the host.
+    fn read_file(&mut self, alloc: Global, path: &str, limit: usize) -> Result<Found, ReadError>
+        ensures within { IfOk result (IsWithin limit) }
+        ensures counted { IfOk result IsCounted }
+        ensures faults { self.new.faults ≡ self.old.faults }
+    {
+        match fs::open(&self.rt, path) {
+            Ok(mut file) => {
+                let mut buffer = self.take_buffer(alloc)?;
+                let found = read_within(&mut file, alloc, &mut buffer, limit);
+                self.buffer = Some(buffer);
+                found
+            }
+            Err(error) if error.kind() == ErrorKind::NotFound => Ok(Found::Absent),
+            Err(_) => Err(ReadError::Failed),
+        }
     }
 }
 
@@ -51,7 +79,7 @@ impl<R: Files> Sources for HostSources<R> {
         ensures most { IfOk result IsCounted }
         ensures counted { self.new.faults ≡ count_after_read self.old.faults result }
     {
-        match read_file(&self.rt, alloc, path, limit) {
+        match self.read_file(alloc, path, limit) {
             Err(ReadError::Failed) => {
                 self.faults = self.faults.saturating_add(1);
                 Err(ReadError::Failed)
@@ -155,5 +183,8 @@ impl<R: Print> Say for HostSay<R> {
     }
 }
 
+mod streams;
 #[cfg(test)]
 mod tests;
+
+pub use streams::StandardStreams;

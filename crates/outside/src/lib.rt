@@ -21,7 +21,7 @@ mod tests;
 mod traits;
 
 pub use basics::{Fault, Kind, Name, NoMemory, Seq, Spot, Stop, stop_at};
-pub use host::{HostOutputs, HostSay, HostSources};
+pub use host::{HostOutputs, HostSay, HostSources, StandardStreams};
 pub use line::{Piece, say_all};
 pub use memory_outputs::MemoryOutputs;
 pub use memory_say::MemorySay;

@@ -1,4 +1,4 @@
-ghost use Rattle.std.specs.Prelude.{◌≡◌, ◌^◌, ◌≤◌, IfOk};
+ghost use Rattle.std.specs.Prelude.{◌≡◌, ◌^◌, ◌<◌, ◌≤◌, length, IfOk};
 ghost use Rattle.std.specs.Io.{ReadsAtMost, WritesAtMost};
 ghost use Rattle.std.specs.Io.KnownBytes.{ReadConsumes, WriteAppends};
 ghost use Rattle.outside.specs.Found.{IsWithin};
@@ -10,9 +10,6 @@ use std::io::{ErrorKind, Read, Write};
 
 /// The most bytes of a stream that are counted.
 const MOST_COUNTED: u64 = 4_294_967_296;
-
-/// How many bytes a read asks for.
-const BUFFER_SIZE: usize = 4096;
 
 // One read, tried again where a signal breaks it off.
 fn read_some<F: Read>(reader: &mut F, buffer: &mut [u8]) -> Result<usize, Failed>
@@ -44,19 +41,19 @@ fn write_some<W: Write>(writer: &mut W, bytes: &[u8]) -> Result<usize, Failed>
     Err(Failed)
 }
 
-// Counts the bytes that are left, after `before` that were read already.
-fn count_rest<F: Read>(reader: &mut F, before: u64) -> Result<u64, Failed>
+// Counts the bytes that are left, after `before` that were read already, each read into the buffer.
+fn count_rest<F: Read>(reader: &mut F, buffer: &mut [u8], before: u64) -> Result<u64, Failed>
+    requires some { 0 < length buffer.now }
     ensures least { IfOk result (λ n. before ≤ n) }
     ensures most { IfOk result (λ n. n ≤ 2 ^ 32) }
     ensures known { IfOk result (CountsKnown before (F.remaining reader.old)) }
 {
-    let mut buffer = [0; BUFFER_SIZE];
     let mut total = before;
     for _ in 0..u64::MAX {
         if total > MOST_COUNTED {
             return Err(Failed);
         }
-        let count = read_some(reader, &mut buffer)?;
+        let count = read_some(reader, buffer)?;
         if count == 0 {
             return Ok(total);
         }
@@ -66,20 +63,22 @@ fn count_rest<F: Read>(reader: &mut F, before: u64) -> Result<u64, Failed>
 }
 
 /// Reads what a stream has left, if that is at most `limit` bytes. Beyond the limit the bytes are
-/// counted and not kept, and one with more than 4,294,967,296 fails.
+/// counted and not kept, and one with more than 4,294,967,296 fails. Each read asks for as many bytes as the
+/// buffer has.
 pub(crate) fn read_within<F: Read>(
     reader: &mut F,
     alloc: Global,
+    buffer: &mut [u8],
     limit: usize,
 ) -> Result<Found, ReadError>
+    requires some { 0 < length buffer.now }
     ensures within { IfOk result (IsWithin limit) }
     ensures counted { IfOk result IsCounted }
     ensures known { IfOk result (FindsKnown (F.remaining reader.old) limit) }
 {
     let mut bytes = Vec::new(alloc);
-    let mut buffer = [0; BUFFER_SIZE];
     for _ in 0..u64::MAX {
-        let Ok(count) = read_some(reader, &mut buffer) else {
+        let Ok(count) = read_some(reader, buffer) else {
             return Err(ReadError::Failed);
         };
         if count == 0 {
@@ -88,7 +87,7 @@ pub(crate) fn read_within<F: Read>(
         if count > limit - bytes.len() {
             let before = bytes.len() as u64 + count as u64;
             drop(bytes);
-            return match count_rest(reader, before) {
+            return match count_rest(reader, buffer, before) {
                 Ok(total) => Ok(Found::TooLong(total)),
                 Err(Failed) => Err(ReadError::Failed),
             };

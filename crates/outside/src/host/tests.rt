@@ -153,7 +153,12 @@ fn takes_no_failure_for_an_end(rt: HostRuntime) -> Result<(), Fail> {
         (2_097_152, false, 6144, ("too long", 4_294_967_296)),
         (2_097_153, false, 6144, ("failed", 0)),
     ] {
-        let found = answer(read_within(&mut halts_after(left, fails), rt.alloc(), limit));
+        let found = answer(read_within(
+            &mut halts_after(left, fails),
+            rt.alloc(),
+            &mut [0; 4096],
+            limit,
+        ));
         assert_eq!(rt; found, want, "after {left} reads within {limit}");
     }
     for (left, fails, want) in [
