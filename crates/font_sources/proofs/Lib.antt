@@ -1,0 +1,6 @@
+mod Folder
+mod Locations
+mod Names
+mod Order
+mod Pairs
+mod Whole

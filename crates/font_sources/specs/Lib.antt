@@ -1,0 +1,5 @@
+pub mod Document
+pub mod GlyphOrder
+pub mod Limits
+pub mod Naming
+pub mod Sources
