@@ -1,0 +1,3 @@
+pub mod Fonts
+pub mod DefaultOutline
+pub mod Fit
