@@ -1,0 +1,17 @@
+mod CodesFit
+mod Counting
+mod DesignLemmas
+mod DrawnSources
+mod FitModels
+mod Flattening
+mod FontSteps
+mod JoinedSteps
+mod ModelSteps
+mod Moving
+mod NameNumbers
+mod OneAnswer
+mod OutlinedSources
+mod Passing
+mod ProjectFit
+mod Rows
+mod Sizing

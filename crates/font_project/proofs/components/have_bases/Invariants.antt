@@ -1,0 +1,7 @@
+use Rattle.std.proofs.Common.{◌≡◌, drop}
+use Rattle.basics.specs.Reading.{all_pass}
+use Rattle.font_project.specs.Components.{have_bases, has_bases_in_each}
+use Rattle.font_project.proofs.components.have_bases.Given as goal
+
+abbrev pub invariant-loop-glyph : goal.invariant-loop-glyph
+invariant-loop-glyph l = have_bases l.names l.default l.sources ≡ all_pass (has_bases_in_each l.default l.sources) l.glyph (drop l.glyph l.names)

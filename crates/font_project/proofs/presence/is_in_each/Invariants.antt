@@ -1,0 +1,7 @@
+use Rattle.std.proofs.Common.{◌≡◌, drop}
+use Rattle.basics.specs.Reading.{all_pass}
+use Rattle.font_project.specs.Presence.{is_there}
+use Rattle.font_project.proofs.presence.is_in_each.Given as goal
+
+abbrev pub invariant-loop-source : goal.invariant-loop-source
+invariant-loop-source l = all_pass (is_there l.glyph l.name) 0 l.sources ≡ all_pass (is_there l.glyph l.name) l.source-index (drop l.source-index l.sources)

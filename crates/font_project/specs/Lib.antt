@@ -1,0 +1,17 @@
+pub mod Units
+pub mod Presence
+pub mod Flats
+pub mod Numbers
+pub mod Resolving
+pub mod Components
+pub mod Outlining
+pub mod Shapes
+pub mod Sizes
+pub mod Unruled
+pub mod Codes
+pub mod Columns
+pub mod Deltas
+pub mod Masters
+pub mod Limits
+pub mod Fonts
+pub mod Making

@@ -1,0 +1,146 @@
+ghost use Rattle.std.specs.Prelude.{◌≡◌, length, IfOk, Ok};
+ghost use Rattle.source_files.specs.Stops.{Anywhere, NeverFails, Reads};
+ghost use Rattle.font_sources.specs.Limits.{AreWithin};
+ghost use Rattle.font_model.specs.Fit.{AreGlyphCodes, IsFit};
+ghost use Rattle.font_project.specs.Fonts.{IsFontAt, IsFontOf, IsFontOfDrawn, default_number, font_of};
+ghost use Rattle.font_project.specs.Limits.{AreDrawnWithin, AreOutlinedWithin, IsFrameWithin};
+ghost use Rattle.font_project.specs.Making.{IsJoinedOf, MakesProject};
+
+use crate::codes::codes_of;
+use crate::columns::rows_in;
+use crate::deltas::models_of;
+use crate::drawn::{DrawnSource, drawn_sources};
+use crate::joining::outlined_of;
+use crate::masters::{Masters, masters_of};
+use crate::naming::numbered;
+use crate::outlined::OutlinedSource;
+use crate::presence::are_there;
+use crate::units::have_units;
+use crate::unruled::is_unruled;
+use basics::{NoMemory, Seq};
+use delta_solve::GlyphModel;
+use font_model::Project;
+use font_sources::{FontSources, read};
+use outside::Sources;
+use source_files::ReadStop;
+use std::alloc::Global;
+
+/// The project of all that was computed.
+fn joined(
+    alloc: Global,
+    found: FontSources,
+    codes: Seq<(u32, u16)>,
+    masters: Masters,
+    models: Seq<GlyphModel>,
+) -> Result<Project, NoMemory>
+    requires frame { IsFrameWithin found }
+    ensures { IfOk result (IsJoinedOf found codes masters models) }
+{
+    let names = numbered(alloc, found.names.as_slice())?;
+    let FontSources {
+        design,
+        order: _,
+        info,
+        names: _,
+        sources: _,
+    } = found;
+    let Masters {
+        sorted,
+        supports,
+        table: _,
+    } = masters;
+    Ok(Project {
+        design,
+        info,
+        names,
+        codes,
+        supports,
+        sorted,
+        models,
+    })
+}
+
+/// The project of the font with these code points and outlines.
+#[tactic(auto, unfolding(crate::specs::Fonts::font_of))]
+fn finished(
+    alloc: Global,
+    path: &str,
+    found: FontSources,
+    codes: Seq<(u32, u16)>,
+    outlined: Seq<OutlinedSource>,
+) -> Result<Project, ReadStop>
+    requires frame { IsFrameWithin found }
+    requires codes { AreGlyphCodes (length found.names) codes }
+    requires outlined { AreOutlinedWithin found.names (length found.design.sources) (default_number found) outlined }
+    ensures makes { MakesProject (λ answer. answer ≡ font_of path.now found codes outlined) result }
+    ensures never { NeverFails result }
+    ensures fit { IfOk result IsFit }
+{
+    is_unruled(alloc, path, found.design.rules.as_slice())?;
+    let masters = masters_of(alloc, &found.design, &found.order)?;
+    let rows = rows_in(alloc, outlined.into_vec(), found.order.as_slice())?;
+    let models = models_of(alloc, &masters, found.names.as_slice(), rows)?;
+    Ok(joined(alloc, found, codes, masters, models)?)
+}
+
+/// The project of the font whose sources draw this.
+fn made(
+    alloc: Global,
+    path: &str,
+    found: FontSources,
+    drawn: Seq<DrawnSource>,
+) -> Result<Project, ReadStop>
+    requires frame { IsFrameWithin found }
+    requires drawn { AreDrawnWithin (length found.names) (length found.design.sources) (default_number found) drawn }
+    ensures makes { MakesProject (IsFontOfDrawn path.now found (Ok drawn)) result }
+    ensures never { NeverFails result }
+    ensures fit { IfOk result IsFit }
+{
+    let default = found.order.as_slice()[0] as usize;
+    let codes = codes_of(alloc, drawn.as_slice()[default].drawings.as_slice())?;
+    let outlined = outlined_of(alloc, found.names.as_slice(), default, drawn)?;
+    finished(alloc, path, found, codes, outlined)
+}
+
+/// The project of the font of all that was read.
+#[tactic(auto, unfolding(crate::specs::Fonts::drawn_of))]
+fn project_of(alloc: Global, path: &str, found: FontSources) -> Result<Project, ReadStop>
+    requires { AreWithin found }
+    ensures makes { MakesProject (IsFontOf path.now (Ok found)) result }
+    ensures never { NeverFails result }
+    ensures fit { IfOk result IsFit }
+{
+    have_units(alloc, found.info.units, found.sources.as_slice())?;
+    are_there(alloc, found.names.as_slice(), found.sources.as_slice())?;
+    let FontSources {
+        design,
+        order,
+        info,
+        names,
+        sources,
+    } = found;
+    let drawn = drawn_sources(alloc, sources)?;
+    let frame = FontSources {
+        design,
+        order,
+        info,
+        names,
+        sources: Seq::new(alloc),
+    };
+    made(alloc, path, frame, drawn)
+}
+
+/// Reads the sources that the designspace document of this path names, and makes the project of their font.
+///
+/// # Errors
+///
+/// The first fault, in this order: those of reading, as `font_sources::read` tells them; UnitsDiffer; GlyphMissing; of
+/// components DanglingComponent and ComponentCycle, then ComponentShape; TooManyPoints and CoordinateRange of flattened
+/// outlines; ContourCount, PointCount and PointKind; TooMuch; NotBuilt for rules; DeltaRange.
+pub fn project<S: Sources>(alloc: Global, sources: &mut S, path: &str) -> Result<Project, ReadStop>
+    ensures exact { Reads (S.state sources.old) (S.state sources.new) Anywhere (MakesProject (IsFontAt (S.state sources.old).files path.now) result) result }
+    ensures fit { IfOk result IsFit }
+{
+    let found = read(alloc, sources, path)?;
+    project_of(alloc, path, found)
+}
