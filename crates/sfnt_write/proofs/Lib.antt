@@ -1,7 +1,7 @@
 mod WordSums
 mod HeadBytes
 mod Pieces
-mod DirectoryReading
+pub mod DirectoryReading
 mod FontReading
 mod RecordSteps
 pub mod Lift

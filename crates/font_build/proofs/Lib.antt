@@ -1,0 +1,9 @@
+pub mod Laws
+pub mod ListLemmas
+pub mod FitLemmas
+pub mod VariationLemmas
+pub mod DefaultLemmas
+pub mod FileLemmas
+pub mod GlyphLemmas
+pub mod DesignLemmas
+pub mod FieldLemmas

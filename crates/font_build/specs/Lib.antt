@@ -1,0 +1,9 @@
+pub mod FontTags
+pub mod FontReading
+pub mod FontBytes
+pub mod Glyphs
+pub mod Characters
+pub mod DesignAxes
+pub mod PlainFields
+pub mod Counts
+pub mod TableSteps
