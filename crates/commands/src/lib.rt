@@ -1,0 +1,20 @@
+//! The words of a call: which command they are, and what it asks for.
+//!
+//! ```text
+//! tuples OUT DRAWING...
+//! build DESIGNSPACE OUT
+//! ```
+//!
+//! `clap` reads the words. A DRAWING is a path, `@`, and 1 to 8 coordinates with commas between.
+#![tactic(auto)]
+
+mod command;
+mod located;
+mod parsing;
+mod subcommands;
+#[cfg(test)]
+mod tests;
+
+pub use command::{Build, Command, Tuples};
+pub use located::Located;
+pub use parsing::parse;

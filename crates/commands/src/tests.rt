@@ -1,0 +1,79 @@
+//! How `clap` reads words, by its own program: which it takes, and which it refuses.
+
+use super::*;
+use std::alloc::Global;
+use std::test::Fail;
+
+/// Words that are those of no command.
+const REFUSED: [&[&str]; 24] = [
+    &[],
+    &["vfb"],
+    &["vfb", ""],
+    &["vfb", "help"],
+    &["vfb", "help", "build"],
+    &["vfb", "--help"],
+    &["vfb", "-h"],
+    &["vfb", "--version"],
+    &["vfb", "-V"],
+    &["vfb", "buil", "a", "b"],
+    &["vfb", "build"],
+    &["vfb", "build", "a"],
+    &["vfb", "build", "a", "b", "c"],
+    &["vfb", "build", "--help"],
+    &["vfb", "build", "a", "b", "-h"],
+    &["vfb", "build", "a", "b", "--version"],
+    &["vfb", "build", "-a", "b"],
+    &["vfb", "build", "--design=a", "b"],
+    &["vfb", "build", "a", "b", "--certificate", "c"],
+    &["vfb", "--", "build", "a", "b"],
+    &["vfb", "-x", "build", "a", "b"],
+    &["vfb", "tuples", "-o", "a@0"],
+    &["vfb", "tuples", "o", "a@0", "-b@0"],
+    &["vfb", "tuples", "o", "--"],
+];
+
+/// Words of `build`, and what they name.
+const TAKEN: [(&[&str], &str, &str); 8] = [
+    (&["vfb", "build", "a", "b"], "a", "b"),
+    (&["", "build", "a", "b"], "a", "b"),
+    (&["vfb", "build", "", ""], "", ""),
+    (&["vfb", "build", "-", "-"], "-", "-"),
+    (&["vfb", "build", "--", "-a", "--help"], "-a", "--help"),
+    (&["vfb", "build", "a", "--", "--"], "a", "--"),
+    (&["vfb", "build", "a", "b", "--"], "a", "b"),
+    (&["vfb", "build", "tuples", "help"], "tuples", "help"),
+];
+
+/// Words of their own.
+fn owned(alloc: Global, words: &[&str]) -> Result<Vec<String>, Fail> {
+    let mut all = Vec::new(alloc);
+    for word in words {
+        all.push(String::from_str(alloc, word)?)?;
+    }
+    Ok(all)
+}
+
+#[test]
+fn reads_words(rt: HostRuntime) -> Result<(), Fail> {
+    let alloc = rt.alloc();
+    for words in REFUSED {
+        let words = owned(alloc, words)?;
+        assert!(rt; parse(alloc, &words)?.is_none(), "{words:?}");
+    }
+    for (words, design, out) in TAKEN {
+        let words = owned(alloc, words)?;
+        match parse(alloc, &words)? {
+            Some(Command::Build(command)) => {
+                assert_eq!(rt; command.design, design, "{words:?}");
+                assert_eq!(rt; command.out, out, "{words:?}");
+            }
+            _ => assert!(rt; false, "{words:?}"),
+        }
+    }
+    let words = owned(alloc, &["vfb", "tuples", "o", "a@0", "--", "-b@1"])?;
+    match parse(alloc, &words)? {
+        Some(Command::Tuples(command)) => assert_eq!(rt; command.drawings.len(), 2),
+        _ => assert!(rt; false),
+    }
+    Ok(())
+}
