@@ -1,8 +1,9 @@
-pub mod WordLemmas
-pub mod LocatedLemmas
 pub mod MasterLemmas
 pub mod GlyphLemmas
 pub mod ReadingLemmas
 pub mod FileLemmas
+pub mod FontLemmas
+pub mod StoppedLemmas
 pub mod PerformingLemmas
 pub mod SayingLemmas
+pub mod LeavingLemmas

@@ -21,16 +21,17 @@ use Rattle.region_support.proofs.LocationLemmas.{number_below, order_length, ord
 use Rattle.compat.specs.Differences.{outline_difference}
 use Rattle.compat.specs.declared.compared.Difference.{Difference}
 use Rattle.compat.proofs.Alike.{none_alike}
-use Rattle.vfb.specs.Making.{AreLocated, shown}
+use Rattle.commands.specs.Proper.{AreLocated, locations_of_drawings}
+use Rattle.vfb.specs.Making.{shown}
 use Rattle.source_files.specs.Stops.{StopsBy}
 use Rattle.source_files.specs.declared.stop.ReadStop.{ReadStop}
 use Rattle.source_files.specs.declared.stop.ReadStop.TheVariants.{Refused, ReadFault, NoMemory}
-use Rattle.vfb.specs.Command.{Located}
+use Rattle.commands.specs.Command.{Located}
 use Rattle.glif.specs.declared.shape.Outline.{Outline}
 use Rattle.glif.specs.declared.shape.Drawing.{Drawing}
-use Rattle.vfb.specs.Masters.{Masters, AreGathered, locations_of_drawings, ordered, difference_fault, all_alike, drawing_numbered, default_drawing, nothing_drawn, masters_in, gathered}
-use Rattle.vfb.specs.Words.{seen}
-use Rattle.vfb.specs.declared.words.Located as words
+use Rattle.vfb.specs.Masters.{Masters, AreGathered, ordered, difference_fault, all_alike, drawing_numbered, default_drawing, nothing_drawn, masters_in, gathered}
+use Rattle.commands.specs.Words.{seen}
+use Rattle.commands.specs.declared.located.Located as words
 use Rattle.vfb.specs.declared.masters.Masters as code
 
 -- ---- lists that grow by one item

@@ -7,11 +7,11 @@ use Rattle.basics.specs.Reading.{◌>>=◌, each, with_prefix}
 use Rattle.glif.specs.Limits.{IsWithinLimits}
 use Rattle.glif.specs.declared.shape.Drawing.{Drawing}
 use Rattle.source_files.specs.Stops.{Answers, GoesOn, Reads}
-use Rattle.vfb.specs.Command.{Located}
+use Rattle.commands.specs.Command.{Located}
 use Rattle.vfb.specs.Faults.{drawing_at, drawings_of}
 use Rattle.vfb.specs.Stops.{StopsAt}
-use Rattle.vfb.specs.Words.{seen}
-use Rattle.vfb.specs.declared.words.Located as words
+use Rattle.commands.specs.Words.{seen}
+use Rattle.commands.specs.declared.located.Located as words
 
 -- the drawings that the words location from a number on
 abbrev pub rest_from : List words.Located → ℕ → List Located

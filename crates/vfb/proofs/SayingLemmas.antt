@@ -4,14 +4,12 @@ use Rattle.std.proofs.lemmas.List.{append_cancel_left}
 use Rattle.outside.specs.Files.{Files, IsPrefix, HasRisen}
 use Rattle.outside.specs.Said.{Says}
 use Rattle.outside.specs.States.{SourcesState, OutputsState, SayState}
-use Rattle.basics.specs.declared.fault.Fault.{Fault}
-use Rattle.vfb.specs.Command.{Command}
+use Rattle.commands.specs.Command.{Command}
 use Rattle.vfb.specs.Ending.{status_of, ending_line}
-use Rattle.vfb.specs.Work.{Work}
+use Rattle.vfb.specs.Product.{Product}
 use Rattle.vfb.specs.Lines.{AddsLine, write_fault_line, read_fault_line, refused_line}
 use Rattle.vfb.specs.Outcome.{IsAnswer, IsAnswerTo, SaysOf, IsSaid, Fails, IsCut, BreaksOff, HasWork, EndsBy}
-use Rattle.vfb.proofs.PerformingLemmas.{complete}
-use Rattle.vfb.specs.Performing.{SaysPrefix, SaysItself, IsSaidItself, FailsItself, IsCutItself, Performs}
+use Rattle.vfb.specs.Performing.{SaysPrefix, SaysItself, IsSaidItself, CutsText, IsCutItself, Performs}
 use Rattle.vfb.specs.declared.status.Status.{Status}
 use Rattle.vfb.specs.declared.status.Status.TheVariants as status
 use Rattle.vfb.specs.declared.ending.Ending.{Ending}
@@ -54,51 +52,44 @@ BreaksOff-from text old mid new first second says adds =
 -- ---- the whole
 
 module _ {inner later risen : Type 0} (first : inner → risen) (second : later → risen) where
-  SaysOf-from : (command : Command) (files : Files) (reading : Result Work Fault) (old mid new : List ℕ) (ending : Ending)
-      → IsAnswerTo reading (status_of ending) → SaysItself command files reading inner old mid ending → AddsLine later (ending_line ending) mid new
-      → SaysOf command files reading risen old new (status_of ending)
-  SaysOf-from command files (Ok work) old mid new Done answer (product, made, says) adds = (product, made, AddsLine-none mid new adds ∙ says)
-  SaysOf-from command files (Ok work) old mid new (Refused fault) answer says adds = absurd answer
-  SaysOf-from command files (Ok work) old mid new Usage answer says adds = absurd answer
-  SaysOf-from command files (Ok work) old mid new (ReadFault path) answer (at, same) adds = (path, at, AddsLine-wider (read_fault_line path) old mid new second same adds)
-  SaysOf-from command files (Ok work) old mid new (WriteFault path) answer (product, made, inl (at, same)) adds =
-      (product, made, inl (path.now, at, AddsLine-wider (write_fault_line path.now) old mid new second same adds))
-  SaysOf-from command files (Ok work) old mid new (WriteFault path) answer (product, made, inr (at, says)) adds =
-      (product, made, inr (BreaksOff-from product.text old mid new first second says (subst (λ path. AddsLine later (write_fault_line path) mid new) at adds)))
-  SaysOf-from command files (Ok work) old mid new NoMemory answer says adds = AddsLine-wider _ old mid new second says adds
-  SaysOf-from command files (Err fault) old mid new Done answer says adds = absurd answer
-  SaysOf-from command files (Err fault) old mid new (Refused found) answer says adds = AddsLine-wider (refused_line found) old mid new second says adds
-  SaysOf-from command files (Err fault) old mid new Usage answer says adds = absurd answer
-  SaysOf-from command files (Err fault) old mid new (ReadFault path) answer (at, same) adds = (path, at, AddsLine-wider (read_fault_line path) old mid new second same adds)
-  SaysOf-from command files (Err fault) old mid new (WriteFault path) answer says adds = absurd answer
-  SaysOf-from command files (Err fault) old mid new NoMemory answer says adds = AddsLine-wider _ old mid new second says adds
+  SaysOf-from : (command : Command) (files : Files) (old mid new : List ℕ) (ending : Ending)
+      → IsAnswerTo command files (status_of ending) → SaysItself command files inner old mid ending → AddsLine later (ending_line ending) mid new
+      → SaysOf command files risen old new (status_of ending)
+  SaysOf-from command files old mid new Done answer (product, is, says) adds = (product, is, AddsLine-none mid new adds ∙ says)
+  SaysOf-from command files old mid new (Refused fault) answer says adds = AddsLine-wider (refused_line fault) old mid new second says adds
+  SaysOf-from command files old mid new Usage answer says adds = absurd answer
+  SaysOf-from command files old mid new (ReadFault path) answer (at, same) adds = (path, at, AddsLine-wider (read_fault_line path) old mid new second same adds)
+  SaysOf-from command files old mid new (WriteFault path) answer (product, is, inl (at, same)) adds =
+      (product, is, inl (path.now, at, AddsLine-wider (write_fault_line path.now) old mid new second same adds))
+  SaysOf-from command files old mid new (WriteFault path) answer (product, is, inr (at, says)) adds =
+      (product, is, inr (BreaksOff-from product.text old mid new first second says (subst (λ path. AddsLine later (write_fault_line path) mid new) at adds)))
+  SaysOf-from command files old mid new NoMemory answer says adds = AddsLine-wider _ old mid new second says adds
 
   pub IsSaid-from : (command : Option Command) (files : Files) (old mid new : List ℕ) (ending : Ending)
       → IsAnswer command files (status_of ending) → IsSaidItself command files inner old mid ending → AddsLine later (ending_line ending) mid new
       → IsSaid command files risen old new (status_of ending)
   IsSaid-from None files old mid new Usage answer says adds = AddsLine-wider _ old mid new second says adds
+  IsSaid-from None files old mid new NoMemory answer says adds = AddsLine-wider _ old mid new second says adds
   IsSaid-from None files old mid new Done answer says adds = absurd answer
   IsSaid-from None files old mid new (Refused _) answer says adds = absurd answer
   IsSaid-from None files old mid new (ReadFault _) answer says adds = absurd answer
   IsSaid-from None files old mid new (WriteFault _) answer says adds = absurd answer
-  IsSaid-from None files old mid new NoMemory answer says adds = absurd answer
-  IsSaid-from (Some command) files old mid new ending _ (reading, is, answer, says) adds = (reading, is, SaysOf-from command files reading old mid new ending answer says adds)
+  IsSaid-from (Some command) files old mid new ending answer says adds = SaysOf-from command files old mid new ending answer says adds
 
-  Fails-from : (command : Command) (reading : Result Work Fault) (old new : Files) (said_old said_mid said_new : List ℕ) (path : Bor (List ℕ))
-      → FailsItself command reading inner old new said_old said_mid (WriteFault path) → AddsLine later (write_fault_line path.now) said_mid said_new
-      → Fails command reading risen old new said_old said_new
-  Fails-from command (Err fault) old new said_old said_mid said_new path cut adds = absurd cut
-  Fails-from command (Ok work) old new said_old said_mid said_new path (product, made, inl (cut, same)) adds =
-      (product, made, inl (path.now, cut, AddsLine-wider (write_fault_line path.now) said_old said_mid said_new second same adds))
-  Fails-from command (Ok work) old new said_old said_mid said_new path (product, made, inr (at, whole, says)) adds =
-      (product, made, inr (whole, BreaksOff-from product.text said_old said_mid said_new first second says (subst (λ path. AddsLine later (write_fault_line path) said_mid said_new) at adds)))
+  Fails-from : (product : Product) (old new : Files) (said_old said_mid said_new : List ℕ) (path : Bor (List ℕ))
+      → CutsText product inner old new said_old said_mid (WriteFault path) → AddsLine later (write_fault_line path.now) said_mid said_new
+      → Fails product risen old new said_old said_new
+  Fails-from product old new said_old said_mid said_new path (inl (cut, same)) adds =
+      inl (path.now, cut, AddsLine-wider (write_fault_line path.now) said_old said_mid said_new second same adds)
+  Fails-from product old new said_old said_mid said_new path (inr (at, whole, says)) adds =
+      inr (whole, BreaksOff-from product.text said_old said_mid said_new first second says (subst (λ path. AddsLine later (write_fault_line path) said_mid said_new) at adds))
 
   pub IsCut-from : (command : Option Command) (files : Files) (old new : Files) (said_old said_mid said_new : List ℕ) (ending : Ending)
       → status_of ending ≡ status.WriteFault → IsCutItself command files inner old new said_old said_mid ending → AddsLine later (ending_line ending) said_mid said_new
       → IsCut command files risen old new said_old said_new
   IsCut-from None files old new said_old said_mid said_new (WriteFault path) is cut adds = absurd cut
-  IsCut-from (Some command) files old new said_old said_mid said_new (WriteFault path) is (reading, work, cut) adds =
-      (reading, work, Fails-from command reading old new said_old said_mid said_new path cut adds)
+  IsCut-from (Some command) files old new said_old said_mid said_new (WriteFault path) is (product, made, cut) adds =
+      (product, made, Fails-from product old new said_old said_mid said_new path cut adds)
   IsCut-from command files old new said_old said_mid said_new Done is cut adds = absurd cc
   IsCut-from command files old new said_old said_mid said_new (Refused _) is cut adds = absurd cc
   IsCut-from command files old new said_old said_mid said_new Usage is cut adds = absurd cc
@@ -139,5 +130,5 @@ module _ {V E : Type 0} {sources sources' : SourcesState} {outputs outputs' : Ou
       → (HasRisen say.faults last.faults → ⊥) → EndsBy ⊥ state
   complete-with_line told has reads writes saying =
       subst (EndsBy ⊥) (sym is)
-      (complete command sources.files (status_of ending) (does.answer told) has (λ e. reads (does.read e))
+      (does.complete told has (λ e. reads (does.read e))
       (λ e. elim (does.write e) [ inl rose ↦ writes rose | inr rose ↦ saying (rises_early say.faults mid.faults last.faults says.counted rose) ]))

@@ -10,7 +10,7 @@ use Rattle.source_files.specs.Trees.{in_file, tree_at}
 use Rattle.glif.specs.Glyphs.{drawing_of}
 use Rattle.glif.specs.declared.shape.Component.{Component}
 use Rattle.glif.specs.declared.shape.Drawing.{Drawing}
-use Rattle.vfb.specs.Command.{Located}
+use Rattle.commands.specs.Command.{Located}
 
 -- a glyph's drawings stand alone, so that no component has a base: the first one is lost
 abbrev pub alone_by : Drawing → List Component → Result Drawing Spot

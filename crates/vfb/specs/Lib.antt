@@ -1,4 +1,4 @@
-pub mod Command
+pub mod BuiltFont
 pub mod Ending
 pub mod Faults
 pub mod Glyph
@@ -10,5 +10,4 @@ pub mod Performing
 pub mod Product
 pub mod Work
 pub mod Stops
-pub mod Words
 pub mod Writing

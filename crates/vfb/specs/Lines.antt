@@ -35,3 +35,16 @@ counts_line tuples explicit points =
 -- the text went from old to new by a line, which is cut short only where the count of faults rose
 abbrev pub AddsLine : Type 0 → List ℕ → List ℕ → List ℕ → Type 0
 AddsLine risen line old new = (new ≡ old ++ line) ⊎ (risen × IsPrefix old new × IsPrefix new (old ++ line))
+
+-- the lines of how many glyphs, masters and axes a font has
+abbrev pub design_lines : ℕ → ℕ → ℕ → List ℕ
+design_lines glyphs masters axes = concat (codes "glyphs " ∷ decimal glyphs ∷ codes "\nmasters " ∷ decimal masters ∷ codes "\naxes " ∷ decimal axes ∷ codes "\n" ∷ [])
+
+-- those of how many tuples it has, and how many points these name among all
+abbrev pub variation_lines : ℕ → ℕ → ℕ → List ℕ
+variation_lines tuples explicit points =
+    concat (codes "tuples " ∷ decimal tuples ∷ codes "\nexplicit " ∷ decimal explicit ∷ codes " of " ∷ decimal points ∷ codes "\n" ∷ [])
+
+-- the five lines that are said of a font
+abbrev pub summary : ℕ → ℕ → ℕ → ℕ → ℕ → ℕ → List ℕ
+summary glyphs masters axes tuples explicit points = design_lines glyphs masters axes ++ variation_lines tuples explicit points

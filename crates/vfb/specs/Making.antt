@@ -1,18 +1,17 @@
 -- What making the product of a command answers.
-use Rattle.std.specs.Prelude.{◌≡◌, ℕ, ◌≤◌, List, length, map, All, Result, Ok, Err, string_bytes}
+use Rattle.std.specs.Prelude.{◌≡◌, ℕ, List, map, Result, Ok, Err, string_bytes}
 use Rattle.outside.specs.Files.{Files}
 use Rattle.basics.specs.declared.fault.Fault.{Fault}
 use Rattle.region_support.specs.Coordinates.{coordinates_of}
-use Rattle.region_support.specs.MasterOrder.{axes_of}
-use Rattle.region_support.specs.Regions.{AreNormalisedLocations}
 use Rattle.source_files.specs.Stops.{StopsBy}
 use Rattle.source_files.specs.declared.stop.ReadStop.{ReadStop}
-use Rattle.vfb.specs.Command.{Command, Located, tuples}
+use Rattle.source_files.specs.declared.stop.ReadStop.TheVariants as stop
+use Rattle.commands.specs.Command.{Command}
 use Rattle.vfb.specs.Lines.{counts_line}
-use Rattle.vfb.specs.Masters.{Masters, locations_of_drawings}
+use Rattle.vfb.specs.Masters.{Masters}
 use Rattle.vfb.specs.Glyph.{IsDataOf, IsDrawnBy}
 use Rattle.vfb.specs.Product.{File, Product, written}
-use Rattle.vfb.specs.Work.{Work, IsWork, IsMadeOf, IsDrawn}
+use Rattle.vfb.specs.Work.{Work, IsWork, IsMadeOf, IsLeft}
 use Rattle.vfb.specs.declared.masters.Masters as code
 use Rattle.vfb.specs.declared.glyph.GlyphData.{GlyphData}
 use Rattle.vfb.specs.declared.product.File as file
@@ -39,22 +38,16 @@ MakesData reading (Ok glyph) =
     (masters : Masters) × (reading ≡ Ok masters) × IsDataOf masters glyph.bytes.items (counts_of glyph) × IsDrawnBy masters glyph.bytes.items
 MakesData reading (Err stop) = StopsBy stop reading
 
--- a call answered a product of the work that the files give, which draws what it must wherever it is written; or it
+-- a fault is that of the command's files; a device that fails and want of memory may come before it
+abbrev pub Stops : Files → Command → ReadStop → Type 0
+Stops files command (stop.Refused fault) = IsWork files command (Err fault)
+Stops files command (stop.ReadFault path) = Unit {0}
+Stops files command stop.NoMemory = Unit {0}
+
+-- a call answered a product of the work that the files give, which leaves what it must wherever it is written; or it
 -- stopped by what they give
 abbrev pub Makes : Files → Command → Result product.Product ReadStop → Type 0
 Makes files command (Ok product) =
     (work : Work) × IsWork files command (Ok work) × IsMadeOf command work (shown_product product)
-    × ((old : Files) → IsDrawn command work (written (shown_product product).files old))
-Makes files command (Err stop) = (reading : Result Work Fault) × IsWork files command reading × StopsBy stop reading
-
--- At most 128 drawings, at locations of as many axes, 1 to 8, with coordinates from -1 to 1.
-pub record AreLocated (drawings : List Located) : Type 0 where
-  pub some_axes : 1 ≤ axes_of (locations_of_drawings drawings)
-  pub few_axes : axes_of (locations_of_drawings drawings) ≤ 8
-  pub few : length drawings ≤ 128
-  pub same_axes : All (λ (located : Located). length located.at ≡ axes_of (locations_of_drawings drawings)) drawings
-  pub normalised : AreNormalisedLocations (locations_of_drawings drawings)
-
--- what holds of a command that words ask for
-abbrev pub IsProper : Command → Type 0
-IsProper (tuples command) = AreLocated command.drawings
+    × ((old : Files) → IsLeft command work (written (shown_product product).files old))
+Makes files command (Err stop) = Stops files command stop

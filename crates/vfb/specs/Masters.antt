@@ -18,7 +18,8 @@ use Rattle.compat.specs.declared.compared.Difference.{Difference}
 use Rattle.delta_solve.specs.GlyphModels.{AreAlike, delta_fault}
 use Rattle.delta_solve.specs.declared.model.DeltaStop.{DeltaStop}
 use Rattle.delta_solve.specs.declared.model.DeltaStop.TheVariants as delta
-use Rattle.vfb.specs.Command.{Located, Tuples}
+use Rattle.commands.specs.Command.{Located, Tuples}
+use Rattle.commands.specs.Proper.{locations_of_drawings}
 use Rattle.vfb.specs.Faults.{drawings_of}
 
 -- The masters of a glyph in their order, the default first: its name, which is the default's, the location of each
@@ -83,9 +84,6 @@ masters_in listed drawings order = record {
   locations = locations_at listed order;
   outlines = map (λ number. (drawing_numbered drawings number).outline) order;
 }
-
-abbrev pub locations_of_drawings : List Located → List (List ℤ)
-locations_of_drawings located = map (λ (one : Located). one.at) located
 
 -- the masters that the drawings are, as they stand
 abbrev pub gathered : List Located → List Drawing → Result Masters Fault

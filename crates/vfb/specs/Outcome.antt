@@ -1,11 +1,12 @@
 -- How a run ends: its status, what the files hold afterwards, and what was said.
-use Rattle.std.specs.Prelude.{◌≡◌, ℕ, ◌+◌, ◌<◌, ◌⊎◌, List, ◌++◌, length, codes, Option, Some, None, Result, Ok, Err}
-use Rattle.outside.specs.Files.{Files, IsPrefix}
-use Rattle.basics.specs.declared.fault.Fault.{Fault}
-use Rattle.vfb.specs.Command.{Command}
+use Rattle.std.specs.Prelude.{◌≡◌, ℕ, ◌+◌, ◌<◌, ◌⊎◌, List, ◌++◌, length, codes, Option, Some, None, Ok, Err}
+use Rattle.outside.specs.Files.{Files, IsPrefix, content}
+use Rattle.commands.specs.Command.{Command, build}
+use Rattle.font_model.specs.Fonts.{Font}
+use Rattle.font_project.specs.Fonts.{IsFontAt}
 use Rattle.vfb.specs.Lines.{AddsLine, refused_line, usage_line, read_fault_line, write_fault_line, no_memory_line}
 use Rattle.vfb.specs.Product.{Product, written, IsCutAt, IsCutIn, IsPathIn, Overfills}
-use Rattle.vfb.specs.Work.{Work, IsWork, IsReadBy, IsMadeOf, IsDrawn}
+use Rattle.vfb.specs.Work.{Work, IsWork, IsReadBy, IsProductOf, IsDrawn, IsLeft}
 use Rattle.vfb.specs.declared.status.Status.{Status}
 use Rattle.vfb.specs.declared.status.Status.TheVariants as status
 
@@ -19,21 +20,33 @@ status_number status.WriteFault = 4
 status_number status.NoMemory = 5
 status_number (status.Rejected _) = 6
 
+-- a command whose files have no fault
+abbrev pub HasWork : Option Command → Files → Type 0
+HasWork None files = ⊥
+HasWork (Some command) files = (work : Work) × IsWork files command (Ok work)
+
 -- Where the files have no fault, the run isn't refused; where they have one, exactly that is answered. A device
 -- that fails and want of memory may come before either.
-abbrev pub IsAnswerTo : Result Work Fault → Status → Type 0
-IsAnswerTo (Ok _) status.Ok = Unit {0}
-IsAnswerTo (Ok _) status.WriteFault = Unit {0}
-IsAnswerTo (Err fault) (status.Refused found) = found ≡ fault
-IsAnswerTo _ status.ReadFault = Unit {0}
-IsAnswerTo _ status.NoMemory = Unit {0}
-IsAnswerTo _ _ = ⊥
+abbrev pub IsAnswerTo : Command → Files → Status → Type 0
+IsAnswerTo command files status.Ok = HasWork (Some command) files
+IsAnswerTo command files (status.Refused fault) = IsWork files command (Err fault)
+IsAnswerTo command files status.Usage = ⊥
+IsAnswerTo command files status.ReadFault = Unit {0}
+IsAnswerTo command files status.WriteFault = HasWork (Some command) files
+IsAnswerTo command files status.NoMemory = Unit {0}
+IsAnswerTo command files (status.Rejected line) = ⊥
 
--- the status that words and files lead to
+-- Words of a command are never answered by their usage, and words of none are, or for want of memory otherwise.
+abbrev pub IsUsage : Option Command → Status → Type 0
+IsUsage (Some command) state = state ≡ status.Usage → ⊥
+IsUsage None state = (state ≡ status.Usage) ⊎ (state ≡ status.NoMemory)
+
+-- The status that words and files lead to. Reading the words takes memory.
 abbrev pub IsAnswer : Option Command → Files → Status → Type 0
 IsAnswer None files status.Usage = Unit {0}
+IsAnswer None files status.NoMemory = Unit {0}
 IsAnswer None files _ = ⊥
-IsAnswer (Some command) files status = (reading : Result Work Fault) × IsWork files command reading × IsAnswerTo reading status
+IsAnswer (Some command) files state = IsAnswerTo command files state
 
 -- no file is begun
 abbrev pub WritesNothing : Status → Type 0
@@ -42,17 +55,15 @@ WritesNothing status.WriteFault = ⊥
 WritesNothing _ = Unit {0}
 
 -- at Ok the files of the product are written, and every other path holds what it held; at a write fault they are cut
-abbrev pub Writes : Command → Result Work Fault → Files → Files → Status → Type 0
-Writes command (Ok work) old new status.Ok = (product : Product) × IsMadeOf command work product × (new ≡ written product.files old)
-Writes command (Ok work) old new status.WriteFault = (product : Product) × IsMadeOf command work product × IsCutIn product.files old new
-Writes command (Err _) old new status.Ok = ⊥
-Writes command (Err _) old new status.WriteFault = ⊥
-Writes command _ old new _ = new ≡ old
+abbrev pub Writes : Command → Files → Files → Files → Status → Type 0
+Writes command files old new status.Ok = (product : Product) × IsProductOf files command product × (new ≡ written product.files old)
+Writes command files old new status.WriteFault = (product : Product) × IsProductOf files command product × IsCutIn product.files old new
+Writes command files old new _ = new ≡ old
 
 -- what the files hold: old as the run began, new as it ends
 abbrev pub IsWritten : Option Command → Files → Files → Files → Status → Type 0
-IsWritten None files old new status = new ≡ old
-IsWritten (Some command) files old new status = (reading : Result Work Fault) × IsWork files command reading × Writes command reading old new status
+IsWritten None files old new state = new ≡ old
+IsWritten (Some command) files old new state = Writes command files old new state
 
 -- a prefix of the text and then the line of a fault of saying itself
 abbrev pub BreaksOff : Type 0 → List ℕ → List ℕ → List ℕ → Type 0
@@ -60,42 +71,53 @@ BreaksOff risen text old new =
     risen × ((prefix : List ℕ) × IsPrefix prefix text × AddsLine risen (write_fault_line (codes "-")) (old ++ prefix) new)
 
 -- The text said for a command, where risen says that the count of faults of saying rose.
-abbrev pub SaysOf : Command → Files → Result Work Fault → Type 0 → List ℕ → List ℕ → Status → Type 0
-SaysOf command files (Ok work) risen old new status.Ok = (product : Product) × IsMadeOf command work product × (new ≡ old ++ product.text)
-SaysOf command files (Ok work) risen old new status.WriteFault = (product : Product) × IsMadeOf command work product
-    × (((path : List ℕ) × IsPathIn product.files path × AddsLine risen (write_fault_line path) old new) ⊎ BreaksOff risen product.text old new)
-SaysOf command files (Err _) risen old new (status.Refused fault) = AddsLine risen (refused_line fault) old new
-SaysOf command files _ risen old new status.ReadFault =
+abbrev pub SaysOf : Command → Files → Type 0 → List ℕ → List ℕ → Status → Type 0
+SaysOf command files risen old new status.Ok = (product : Product) × IsProductOf files command product × (new ≡ old ++ product.text)
+SaysOf command files risen old new (status.Refused fault) = AddsLine risen (refused_line fault) old new
+SaysOf command files risen old new status.Usage = ⊥
+SaysOf command files risen old new status.ReadFault =
     (path : List ℕ) × IsReadBy (Unit {0}) files command path × AddsLine risen (read_fault_line path) old new
-SaysOf command files _ risen old new status.NoMemory = AddsLine risen no_memory_line old new
-SaysOf command files _ risen old new _ = ⊥
+SaysOf command files risen old new status.WriteFault = (product : Product) × IsProductOf files command product
+    × (((path : List ℕ) × IsPathIn product.files path × AddsLine risen (write_fault_line path) old new) ⊎ BreaksOff risen product.text old new)
+SaysOf command files risen old new status.NoMemory = AddsLine risen no_memory_line old new
+SaysOf command files risen old new (status.Rejected line) = ⊥
+
+-- the text said where the words are those of no command
+abbrev pub SaysUsage : Type 0 → List ℕ → List ℕ → Status → Type 0
+SaysUsage risen old new status.Usage = AddsLine risen usage_line old new
+SaysUsage risen old new status.NoMemory = AddsLine risen no_memory_line old new
+SaysUsage risen old new _ = ⊥
 
 abbrev pub IsSaid : Option Command → Files → Type 0 → List ℕ → List ℕ → Status → Type 0
-IsSaid None files risen old new status = AddsLine risen usage_line old new
-IsSaid (Some command) files risen old new status = (reading : Result Work Fault) × IsWork files command reading × SaysOf command files reading risen old new status
+IsSaid None files risen old new state = SaysUsage risen old new state
+IsSaid (Some command) files risen old new state = SaysOf command files risen old new state
 
 -- After a write fault: the path said is that of the file which is cut short, those before it being whole, or a dash
 -- where all files are whole and saying failed.
-abbrev pub Fails : Command → Result Work Fault → Type 0 → Files → Files → List ℕ → List ℕ → Type 0
-Fails command (Err _) risen old new said_old said_new = ⊥
-Fails command (Ok work) risen old new said_old said_new = (product : Product) × IsMadeOf command work product
-    × (((path : List ℕ) × IsCutAt path product.files old new × AddsLine risen (write_fault_line path) said_old said_new)
-    ⊎ ((new ≡ written product.files old) × BreaksOff risen product.text said_old said_new))
+abbrev pub Fails : Product → Type 0 → Files → Files → List ℕ → List ℕ → Type 0
+Fails product risen old new said_old said_new =
+    ((path : List ℕ) × IsCutAt path product.files old new × AddsLine risen (write_fault_line path) said_old said_new)
+    ⊎ ((new ≡ written product.files old) × BreaksOff risen product.text said_old said_new)
 
 abbrev pub IsCut : Option Command → Files → Type 0 → Files → Files → List ℕ → List ℕ → Type 0
 IsCut None files risen old new said_old said_new = ⊥
 IsCut (Some command) files risen old new said_old said_new =
-    (reading : Result Work Fault) × IsWork files command reading × Fails command reading risen old new said_old said_new
+    (product : Product) × IsProductOf files command product × Fails product risen old new said_old said_new
 
 -- what the files draw that a command leaves
 abbrev pub Draws : Option Command → Files → Files → Type 0
 Draws None files new = ⊥
 Draws (Some command) files new = (work : Work) × IsWork files command (Ok work) × IsDrawn command work new
 
--- a command whose files have no fault
-abbrev pub HasWork : Option Command → Files → Type 0
-HasWork None files = ⊥
-HasWork (Some command) files = (work : Work) × IsWork files command (Ok work)
+-- what the files have that a command leaves
+abbrev pub Leaves : Option Command → Files → Files → Type 0
+Leaves None files new = ⊥
+Leaves (Some command) files new = (work : Work) × IsWork files command (Ok work) × IsLeft command work new
+
+-- what the file of a font that is built has of the font (and nothing of other commands)
+abbrev pub HasOfFont : (Font → List ℕ → Type 0) → Option Command → Files → Files → Type 0
+HasOfFont Has (Some (build command)) files new = (found : Font) × IsFontAt files command.design (Ok found) × Has found (content new command.out)
+HasOfFont Has _ files new = Unit {0}
 
 -- what a file holds exceeds the room of its path, or what was said with the text exceeds the room of saying
 abbrev pub Overflows : Product → (List ℕ → Option ℕ) → ℕ → List ℕ → Type 0
@@ -103,8 +125,7 @@ Overflows product room say_room said = Overfills room product.files ⊎ (say_roo
 
 abbrev pub LacksRoom : Option Command → Files → (List ℕ → Option ℕ) → ℕ → List ℕ → Type 0
 LacksRoom None files room say_room said = ⊥
-LacksRoom (Some command) files room say_room said = (work : Work) × IsWork files command (Ok work)
-    × ((product : Product) × IsMadeOf command work product × Overflows product room say_room said)
+LacksRoom (Some command) files room say_room said = (product : Product) × IsProductOf files command product × Overflows product room say_room said
 
 -- Ok, want of memory, or a write fault with this cause
 abbrev pub EndsBy : Type 0 → Status → Type 0

@@ -1,7 +1,7 @@
 -- Which path a read fault of a command's drawings names.
 use Rattle.std.specs.Prelude.{◌≡◌, ℕ, ◌⊎◌, List, [], ◌∷◌, IsOk}
 use Rattle.outside.specs.Files.{Files}
-use Rattle.vfb.specs.Command.{Located}
+use Rattle.commands.specs.Command.{Located}
 use Rattle.vfb.specs.Faults.{drawing_at}
 
 -- The path is that of one of these drawings, and where the sources tell their files, every earlier one's file is a

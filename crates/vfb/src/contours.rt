@@ -2,10 +2,10 @@ ghost use Rattle.std.specs.Prelude.{◌≡◌, length, map, IfOk, Some};
 ghost use Rattle.compat.specs.Differences.{outline_difference};
 ghost use Rattle.vfb.specs.Masters.{all_alike, difference_fault};
 ghost use Rattle.source_files.specs.Stops.{Answers, NeverFails};
-ghost use Rattle.vfb.specs.Words.{seen};
+ghost use Rattle.commands.specs.Words.{seen};
 
 use crate::faults::difference_fault;
-use crate::words::Located;
+use commands::Located;
 use compat::compare;
 use glif::Drawing;
 use source_files::ReadStop;

@@ -6,10 +6,10 @@ ghost use Rattle.markup.specs.Plain.{plain};
 ghost use Rattle.source_files.specs.Stops.{Answers, Reads};
 ghost use Rattle.vfb.specs.Faults.{alone, drawing_at, drawings_of, drawn_alone};
 ghost use Rattle.vfb.specs.Stops.{StopsAt};
-ghost use Rattle.vfb.specs.Words.{seen};
+ghost use Rattle.commands.specs.Words.{seen};
 
-use crate::words::Located;
 use basics::{Kind, Seq, Stop, stop_at};
+use commands::Located;
 use glif::Drawing;
 use markup::Element;
 use outside::Sources;

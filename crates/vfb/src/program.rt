@@ -1,19 +1,24 @@
-ghost use Rattle.std.specs.Prelude.{◌≡◌, ℕ, ◌↔◌, ◌⊎◌, List, map, string_bytes, None};
+ghost use Rattle.std.specs.Prelude.{◌≡◌, ℕ, ◌⊎◌, List, map, string_bytes, Some};
 ghost use Rattle.outside.specs.Files.{content, HasRisen};
 ghost use Rattle.source_files.specs.Stops.{Reads};
-ghost use Rattle.vfb.specs.Command.{command_of};
-ghost use Rattle.vfb.specs.Making.{IsProper, Makes};
-ghost use Rattle.vfb.specs.Words.{asked};
+ghost use Rattle.commands.specs.Syntax.{command_of};
+ghost use Rattle.commands.specs.Proper.{IsProper};
+ghost use Rattle.vfb.specs.Making.{Makes};
+ghost use Rattle.commands.specs.Words.{asked};
 ghost use Rattle.vfb.specs.Work.{IsReadBy};
+ghost use Rattle.vfb.specs.BuiltFont.{HasAdvances, HasDesign, HasLeastSets, MapsCharacters, ReturnsAllMasters, TellsFields};
 ghost use Rattle.vfb.specs.Performing.{Performs};
-ghost use Rattle.vfb.specs.Outcome.{IsAnswer, WritesNothing, IsWritten, IsSaid, IsCut, Draws, HasWork, LacksRoom, EndsBy};
+ghost use Rattle.vfb.specs.Outcome.{IsAnswer, IsUsage, WritesNothing, IsWritten, IsSaid, IsCut, Draws, HasOfFont, HasWork, LacksRoom, EndsBy};
 
 use crate::ending::{Ending, say_ending};
+use crate::font::make_font;
 use crate::product::Product;
 use crate::status::Status;
 use crate::tuples::make_tuples;
-use crate::words::{Command, parse};
 use crate::writing::write_product;
+use basics::NoMemory;
+use commands::{Command, parse};
+use font_project::one_answer;
 use outside::{Outputs, Say, Sources};
 use source_files::ReadStop;
 use std::alloc::Global;
@@ -29,11 +34,31 @@ fn make<'a, S: Sources>(
 {
     match command {
         Command::Tuples(command) => make_tuples(alloc, command, sources),
+        Command::Build(command) => make_font(alloc, command, sources),
+    }
+}
+
+/// Performs a command.
+fn perform<'a, S: Sources, O: Outputs, T: Say>(
+    alloc: Global,
+    command: &Command<'a>,
+    sources: &mut S,
+    outputs: &mut O,
+    say: &mut T,
+) -> Ending<'a>
+    requires { IsProper (asked command.now) }
+    ensures { Performs (S.state sources.old) (S.state sources.new) (O.state outputs.old) (O.state outputs.new) (T.state say.old) (T.state say.new) (Some (asked command.now)) result }
+{
+    // Files have one font or one first fault.
+    one_answer();
+    match make(alloc, command, sources) {
+        Ok(product) => write_product(&product, outputs, say),
+        Err(stop) => Ending::from_stop(stop),
     }
 }
 
 /// Performs the command that the words are, or ends with their usage where they are none.
-fn perform<'a, S: Sources, O: Outputs, T: Say>(
+fn perform_words<'a, S: Sources, O: Outputs, T: Say>(
     alloc: Global,
     words: &'a Vec<String>,
     sources: &mut S,
@@ -42,17 +67,19 @@ fn perform<'a, S: Sources, O: Outputs, T: Say>(
 ) -> Ending<'a>
     ensures { Performs (S.state sources.old) (S.state sources.new) (O.state outputs.old) (O.state outputs.new) (T.state say.old) (T.state say.new) (command_of (map string_bytes words.now.items)) result }
 {
-    let Some(command) = parse(words) else {
-        return Ending::Usage;
-    };
-    match make(alloc, &command, sources) {
-        Ok(product) => write_product(&product, outputs, say),
-        Err(stop) => Ending::from_stop(stop),
+    match parse(alloc, words) {
+        Ok(Some(command)) => perform(alloc, &command, sources, outputs, say),
+        Ok(None) => Ending::Usage,
+        Err(NoMemory) => Ending::NoMemory,
     }
 }
 
 /// Does what the words ask for, of which the first is the program's name. Files are read from `sources`
 /// and written to `outputs`, and text is said to `say`.
+///
+/// The words `build`, DESIGNSPACE and OUT ask for the variable font that the designspace document and its sources
+/// describe. All is done in memory first; then OUT is begun and the font appended: its table directory in one piece, and
+/// each table in one more; and five lines count its glyphs, masters, axes, tuples and explicit points.
 ///
 /// The words `tuples`, OUT and 1 to 128 drawings ask for the variation data of a glyph (OpenType, "gvar").
 /// A drawing is a path, `@`, and 1 to 8 coordinates with commas between, whole numbers from -16,384 to
@@ -62,11 +89,13 @@ fn perform<'a, S: Sources, O: Outputs, T: Say>(
 /// All is done in memory first; then OUT is begun, the data are appended in one piece, and a line says what
 /// they hold.
 ///
+/// There are no options: before a word `--`, words that begin with `-`, other than `-` alone, are those of no command.
+///
 /// # Errors
 ///
 /// `Status` says how the run ended. Where that isn't `Ok` a last line is said of it; making it takes no
 /// memory, and where it can't be said the status stays. `Usage` comes exactly where the words are none
-/// of these, and `Refused` exactly where the files or the masters have a fault. `ReadFault` and `WriteFault` come only
+/// of these and memory lasts to read them, and `Refused` exactly where the files or the masters have a fault. `ReadFault` and `WriteFault` come only
 /// where a device failed, and `NoMemory` where memory ran out; either may come in place of `Refused`.
 /// `Rejected` doesn't come yet. But for `Ok` and `WriteFault` no file was begun.
 pub fn run<S: Sources, O: Outputs, T: Say>(
@@ -76,8 +105,8 @@ pub fn run<S: Sources, O: Outputs, T: Say>(
     outputs: &mut O,
     say: &mut T,
 ) -> Status
-    // The words alone decide on Usage.
-    ensures usage { (result ≡ Status.Usage) ↔ (command_of (map string_bytes words.now.items) ≡ None) }
+    // The words alone decide on Usage, to which only want of memory may come before.
+    ensures usage { IsUsage (command_of (map string_bytes words.now.items)) result }
     // Where the sources tell their files: exactly which fault is refused.
     ensures answer { (S.state sources.old).tells → IsAnswer (command_of (map string_bytes words.now.items)) (S.state sources.old).files result }
     ensures rejected { (line : ℕ) → result ≡ Status.Rejected line → ⊥ }
@@ -90,13 +119,19 @@ pub fn run<S: Sources, O: Outputs, T: Say>(
     ensures written { (S.state sources.old).tells → (O.state outputs.old).tells → IsWritten (command_of (map string_bytes words.now.items)) (S.state sources.old).files (O.state outputs.old).files (O.state outputs.new).files result }
     ensures said { (S.state sources.old).tells → (T.state say.old).tells → IsSaid (command_of (map string_bytes words.now.items)) (S.state sources.old).files (HasRisen (T.state say.old).faults (T.state say.new).faults) (T.state say.old).said (T.state say.new).said result }
     ensures cut { (S.state sources.old).tells → (O.state outputs.old).tells → (T.state say.old).tells → result ≡ Status.WriteFault → IsCut (command_of (map string_bytes words.now.items)) (S.state sources.old).files (HasRisen (T.state say.old).faults (T.state say.new).faults) (O.state outputs.old).files (O.state outputs.new).files (T.state say.old).said (T.state say.new).said }
-    // The headline: what the bytes written draw.
+    // The headline: what the bytes written draw; and of a font that is built, what else they have of it.
     ensures draws { (S.state sources.old).tells → (O.state outputs.old).tells → result ≡ Status.Ok → Draws (command_of (map string_bytes words.now.items)) (S.state sources.old).files (O.state outputs.new).files }
+    ensures masters { (S.state sources.old).tells → (O.state outputs.old).tells → result ≡ Status.Ok → HasOfFont ReturnsAllMasters (command_of (map string_bytes words.now.items)) (S.state sources.old).files (O.state outputs.new).files }
+    ensures advances { (S.state sources.old).tells → (O.state outputs.old).tells → result ≡ Status.Ok → HasOfFont HasAdvances (command_of (map string_bytes words.now.items)) (S.state sources.old).files (O.state outputs.new).files }
+    ensures characters { (S.state sources.old).tells → (O.state outputs.old).tells → result ≡ Status.Ok → HasOfFont MapsCharacters (command_of (map string_bytes words.now.items)) (S.state sources.old).files (O.state outputs.new).files }
+    ensures axes { (S.state sources.old).tells → (O.state outputs.old).tells → result ≡ Status.Ok → HasOfFont HasDesign (command_of (map string_bytes words.now.items)) (S.state sources.old).files (O.state outputs.new).files }
+    ensures least { (S.state sources.old).tells → (O.state outputs.old).tells → result ≡ Status.Ok → HasOfFont HasLeastSets (command_of (map string_bytes words.now.items)) (S.state sources.old).files (O.state outputs.new).files }
+    ensures fields { (S.state sources.old).tells → (O.state outputs.old).tells → result ≡ Status.Ok → HasOfFont TellsFields (command_of (map string_bytes words.now.items)) (S.state sources.old).files (O.state outputs.new).files }
     // Nothing gives up but for memory.
     ensures complete { (S.state sources.old).tells → HasWork (command_of (map string_bytes words.now.items)) (S.state sources.old).files → ¬ (HasRisen (S.state sources.old).faults (S.state sources.new).faults) → ¬ (HasRisen (O.state outputs.old).faults (O.state outputs.new).faults) → ¬ (HasRisen (T.state say.old).faults (T.state say.new).faults) → EndsBy ⊥ result }
     ensures complete_sure { (S.state sources.old).tells → (S.state sources.old).is_sure → (O.state outputs.old).tells → (O.state outputs.old).is_sure → (T.state say.old).tells → (T.state say.old).is_sure → HasWork (command_of (map string_bytes words.now.items)) (S.state sources.old).files → EndsBy (LacksRoom (command_of (map string_bytes words.now.items)) (S.state sources.old).files (O.state outputs.old).room (T.state say.old).room (T.state say.old).said) result }
 {
-    let ending = perform(alloc, words, sources, outputs, say);
+    let ending = perform_words(alloc, words, sources, outputs, say);
     // A line that can't be said changes nothing.
     let _ = say_ending(say, &ending);
     ending.into_status()

@@ -11,6 +11,7 @@ use std::process::Abort;
 use std::test::Fail;
 
 mod drawn;
+mod fonts;
 mod several;
 mod whole;
 
@@ -294,10 +295,10 @@ fn files(alloc: Global, texts: &[(&str, &str)]) -> Result<Seq<(Name, Vec<u8>)>, 
     Ok(all)
 }
 
-/// Room for this many bytes at `o.bin`.
-fn room(alloc: Global, size: u64) -> Result<Seq<(Name, u64)>, Fail> {
+/// Room for this many bytes at a path.
+fn room(alloc: Global, path: &str, size: u64) -> Result<Seq<(Name, u64)>, Fail> {
     let mut all = Seq::new(alloc);
-    all.push((Name::from_str(alloc, "o.bin")?, size))?;
+    all.push((Name::from_str(alloc, path)?, size))?;
     Ok(all)
 }
 
@@ -313,7 +314,7 @@ fn check(
 ) -> Result<(), Fail> {
     let words = owned(alloc, words)?;
     let mut sources = SureSources::new(files(alloc, texts)?);
-    let mut outputs = SureOutputs::new(alloc, room(alloc, 99)?)?;
+    let mut outputs = SureOutputs::new(alloc, room(alloc, "o.bin", 99)?)?;
     let mut say = SureSay::new(alloc, 99)?;
     let ended = run(alloc, &words, &mut sources, &mut outputs, &mut say);
     assert_eq!(rt; ended.number(), status, "{said}");
@@ -372,7 +373,7 @@ impl Sources for LongSources {
 fn refuses_a_long_file(rt: HostRuntime) -> Result<(), Fail> {
     let alloc = rt.alloc();
     let words = owned(alloc, WORDS)?;
-    let mut outputs = SureOutputs::new(alloc, room(alloc, 99)?)?;
+    let mut outputs = SureOutputs::new(alloc, room(alloc, "o.bin", 99)?)?;
     let mut say = SureSay::new(alloc, 99)?;
     let status = run(alloc, &words, &mut LongSources, &mut outputs, &mut say);
     assert_eq!(rt; status.number(), 1);
@@ -456,7 +457,11 @@ fn check_failing(rt: &impl Abort, alloc: Global, case: &Failing) -> Result<(), F
     let words = owned(alloc, WORDS)?;
     let texts = files(alloc, &[("a.glif", TRIANGLE), ("b.glif", MOVED)])?;
     let mut sources = MemorySources::new(texts, numbers(alloc, case.reads)?);
-    let mut outputs = MemoryOutputs::new(alloc, room(alloc, 99)?, numbers(alloc, case.writes)?)?;
+    let mut outputs = MemoryOutputs::new(
+        alloc,
+        room(alloc, "o.bin", 99)?,
+        numbers(alloc, case.writes)?,
+    )?;
     let mut say = MemorySay::new(alloc, 99, numbers(alloc, case.says)?)?;
     let status = run(alloc, &words, &mut sources, &mut outputs, &mut say);
     let said = case.said;
@@ -491,7 +496,7 @@ fn ends_where_there_is_no_room(rt: HostRuntime) -> Result<(), Fail> {
     for (data, text, status, said, held) in ROOMS {
         let texts = files(alloc, &[("a.glif", TRIANGLE), ("b.glif", MOVED)])?;
         let mut sources = SureSources::new(texts);
-        let mut outputs = SureOutputs::new(alloc, room(alloc, data)?)?;
+        let mut outputs = SureOutputs::new(alloc, room(alloc, "o.bin", data)?)?;
         let mut say = SureSay::new(alloc, text)?;
         let ended = run(alloc, &words, &mut sources, &mut outputs, &mut say);
         assert_eq!(rt; ended.number(), status, "{said}");

@@ -1,14 +1,15 @@
 ghost use Rattle.std.specs.Prelude.{◌≡◌, IfOk, string_bytes};
 ghost use Rattle.source_files.specs.Stops.{Reads};
-ghost use Rattle.vfb.specs.Command.{tuples};
-ghost use Rattle.vfb.specs.Making.{AreLocated, Makes, counts_of};
-ghost use Rattle.vfb.specs.Words.{asked_tuples};
+ghost use Rattle.commands.specs.Command.{tuples};
+ghost use Rattle.commands.specs.Proper.{AreLocated};
+ghost use Rattle.vfb.specs.Making.{Makes, counts_of};
+ghost use Rattle.commands.specs.Words.{asked_tuples};
 ghost use Rattle.vfb.specs.Work.{IsReadBy};
 
 use crate::glyph::{GlyphData, make_data};
 use crate::product::{File, Product};
-use crate::words::Tuples;
 use basics::NoMemory;
+use commands::Tuples;
 use outside::Sources;
 use source_files::ReadStop;
 use std::alloc::Global;

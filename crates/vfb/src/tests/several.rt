@@ -37,7 +37,7 @@ pub(super) fn outcome(
         texts.push((Name::from_str(alloc, path.as_str())?, bytes))?;
     }
     let mut sources = SureSources::new(texts);
-    let mut outputs = SureOutputs::new(alloc, room(alloc, 999)?)?;
+    let mut outputs = SureOutputs::new(alloc, room(alloc, "o.bin", 999)?)?;
     let mut say = SureSay::new(alloc, 99)?;
     let status = run(alloc, &words, &mut sources, &mut outputs, &mut say).number();
     let said = Vec::from_slice(alloc, say.said())?;

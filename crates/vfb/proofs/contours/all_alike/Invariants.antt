@@ -1,6 +1,6 @@
 use Rattle.std.proofs.Common.{◌≡◌, map, drop}
 use Rattle.vfb.specs.Masters.{all_alike}
-use Rattle.vfb.specs.Words.{seen}
+use Rattle.commands.specs.Words.{seen}
 use Rattle.vfb.proofs.contours.all_alike.Given as goal
 
 abbrev pub invariant-loop-index : goal.invariant-loop-index

@@ -4,7 +4,7 @@ use Rattle.std.proofs.Common.{◌≡◌, List, Ok, rules, subst, sym, ◌∙◌,
 use Rattle.glif.specs.declared.shape.Drawing.{Drawing}
 use Rattle.std.proofs.lemmas.List.{length-map}
 use Rattle.region_support.specs.Coordinates.{coordinates_of}
-use Rattle.vfb.specs.Words.{seen}
+use Rattle.commands.specs.Words.{seen}
 use Rattle.vfb.proofs.MasterLemmas.{locations_on_axes, one_location_each, first_below, default_among, gathered_stop, gathered_ok, are_gathered}
 use Rattle.vfb.proofs.masters.gather.Goals as goal
 

@@ -1,6 +1,6 @@
 use Rattle.std.proofs.Common.{◌∙◌, ap, map, take_all}
 use Rattle.region_support.specs.Coordinates.{coordinates_of}
-use Rattle.vfb.specs.declared.words.Located.{Located}
+use Rattle.commands.specs.declared.located.Located.{Located}
 use Rattle.vfb.proofs.MasterLemmas.{pushed_as, locations_seen}
 use Rattle.vfb.proofs.masters.locations_of.Goals as goal
 

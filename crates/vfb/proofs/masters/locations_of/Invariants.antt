@@ -1,6 +1,6 @@
 use Rattle.std.proofs.Common.{◌≡◌, map, take}
 use Rattle.region_support.specs.Coordinates.{coordinates_of}
-use Rattle.vfb.specs.declared.words.Located.{Located}
+use Rattle.commands.specs.declared.located.Located.{Located}
 use Rattle.vfb.proofs.masters.locations_of.Given as goal
 
 abbrev pub invariant-loop-one : goal.invariant-loop-one
