@@ -1,2 +1,10 @@
 pub mod Conditions
+pub mod Cells
+pub mod Grid
+pub mod Answers
+pub mod Substitution
 pub mod Laws
+pub mod Areas
+pub mod Overlay
+pub mod Merging
+pub mod Marks

@@ -1,0 +1,12 @@
+pub mod Places
+pub mod SingleReading
+pub mod FeatureReading
+pub mod ConditionReading
+pub mod VariationReading
+pub mod LookupReading
+pub mod PairOrder
+pub mod Acting
+pub mod Matching
+pub mod WritableCells
+pub mod TableReading
+pub mod Writing
