@@ -1,18 +1,15 @@
 -- The default's outline by the model is the outline of the default master.
-use Rattle.std.proofs.Common.{◌≡◌, ℕ, ℤ, pos, suc, ◌+◌, ◌<◌, ◌+ℤ◌, ◌-ℤ◌, ◌*ℤ◌, Bool, List, [], ◌∷◌, ◌++◌, length, map, get_or, take, drop, refl, sym, ap, subst, ◌∙◌, arith}
+use Rattle.std.proofs.Common.{◌≡◌, ℕ, ℤ, pos, ◌<◌, ◌+ℤ◌, ◌-ℤ◌, ◌*ℤ◌, Bool, List, [], ◌∷◌, ◌++◌, length, map, get_or, drop, refl, sym, ap, subst, ◌∙◌, arith}
 use Rattle.std.proofs.lemmas.Int.{ints}
 use Rattle.std.proofs.lemmas.List.{ext_get_or, length-map}
 use Rattle.std.proofs.Math.Seq.{drop-append_seam, take-append_seam}
 use Rattle.fixpoint.specs.Rounding.{round_down, round_up}
-use Rattle.fixpoint.specs.declared.plane.Pair.{Pair}
 use Rattle.fixpoint.proofs.RoundingLemmas.{comes_back, scaled_by_one}
 use Rattle.glif.specs.declared.shape.Outline.{Outline}
 use Rattle.glif.specs.declared.shape.Point.{Point}
 use Rattle.variation_rules.specs.InferredDelta.{still}
 use Rattle.variation_rules.specs.Scalar.{scalar_of}
 use Rattle.variation_rules.specs.declared.region.Triple.{Triple}
-use Rattle.region_support.specs.MasterOrder.{AreMasters}
-use Rattle.region_support.specs.Regions.{FirstIsWhole, regions_of}
 use Rattle.delta_solve.specs.Deltas.{dot, model_value, next_delta, scalars_at, whole_rows}
 use Rattle.delta_solve.specs.GlyphModels.{AreTuplesBy, IsModelBy, IsModelOf, default_of, delta_advance}
 use Rattle.delta_solve.specs.Outlines.{advance_of, all_points, contour_lengths, points_of, position, x_at, x_of, y_at, y_of}

@@ -1,11 +1,11 @@
 -- What the file has of axes, instances and names.
-use Rattle.std.proofs.Common.{◌≡◌, ℕ, ℤ, zero, suc, ◌+◌, ◌<◌, ◌≤◌, Bool, true, false, List, [], ◌∷◌, ◌++◌, All, length, map, Option, Some, None, refl, sym, ap, subst, ◌∙◌, arith}
+use Rattle.std.proofs.Common.{◌≡◌, ℕ, zero, suc, ◌+◌, ◌<◌, Bool, true, false, List, [], ◌∷◌, ◌++◌, All, length, map, Option, Some, None, refl, ap, subst, ◌∙◌, arith}
 use Rattle.std.proofs.lemmas.Bool.{eq-eqb, ne_eqb}
 use Rattle.std.proofs.lemmas.List.{length-map}
 use Rattle.std.proofs.lemmas.List.Elements.{All-cons, All-head, All-nil, All-tail}
 use Rattle.std.specs.Prelude.{if◌then◌else◌, nat_eq, slice_get}
 use Rattle.std.specs.List.{AllByRecursion, AllZip}
-use Rattle.avar_fvar.specs.Axes.{FontAxes, axes_in, axis_of}
+use Rattle.avar_fvar.specs.Axes.{axes_in, axis_of}
 use Rattle.avar_fvar.specs.SegmentMaps.{MapsAsAxes, mapped_in}
 use Rattle.avar_fvar.specs.declared.records.AxisRecord.{AxisRecord}
 use Rattle.avar_fvar.specs.declared.records.InstanceRecord.{InstanceRecord}
@@ -15,17 +15,16 @@ use Rattle.design_axes.specs.declared.axis.Axis.{Axis}
 use Rattle.designspace.specs.declared.instance.Instance.{Instance}
 use Rattle.font_build.proofs.FileLemmas.{InFile}
 use Rattle.font_build.specs.DesignAxes.{HasAxes, IsNamed, MapsAsDesign}
-use Rattle.font_build.specs.FontReading.{axes_of_file, mapped_on, name_in, names_of_file, text_of}
-use Rattle.font_build.specs.FontTags.{AVAR, FVAR, NAME}
+use Rattle.font_build.specs.FontReading.{names_of_file, text_of}
+use Rattle.font_build.specs.FontTags.{AVAR}
 use Rattle.font_build.specs.TableSteps.{AreDesign}
 use Rattle.font_build.specs.declared.tables.Tables.{Tables}
 use Rattle.font_model.specs.declared.parts.Project.{Project}
-use Rattle.font_tables.specs.FontAxes.{axes_from, axis_records, font_axes, instances_from}
+use Rattle.font_tables.specs.FontAxes.{axes_from, instances_from}
 use Rattle.font_tables.specs.FontNames.{FIRST, copyright_name, design_texts, info_names, instance_names_of, labels_of, names_of, texts_from}
 use Rattle.fontinfo.specs.declared.info.Info.{Info}
 use Rattle.norm_loc.specs.AvarPairs.{avar_at}
 use Rattle.sfnt_write.specs.FontFile.{table_in}
-use Rattle.norm_loc.specs.PairBounds.{IsCoordinate}
 
 -- ---- the text of an id
 

@@ -1,15 +1,16 @@
 -- What the file has of the tables of fixed fields.
-use Rattle.std.proofs.Common.{◌≡◌, ◌≢◌, ℕ, ℤ, pos, ◌+◌, ◌≤◌, List, [], ◌∷◌, All, length, drop, Option, Some, refl, sym, ap, subst, ◌∙◌, arith}
+use Rattle.std.proofs.Common.{◌≡◌, ◌≢◌, ℕ, pos, ◌+◌, ◌≤◌, Bool, List, drop, Option, Some, refl, sym, ap, subst, ◌∙◌, arith}
 use Rattle.std.proofs.lemmas.List.Elements.{All-from_recursion}
-use Rattle.std.specs.Prelude.{if◌then◌else◌}
+use Rattle.std.specs.Prelude.{if◌then◌else◌, is_some}
 use Rattle.std.specs.Int.{w32, cast_signed}
 use Rattle.basics.specs.Optional.{◌>>=◌}
-use Rattle.be_bytes.specs.Reading.{int16, int32, int64, prefix_of, uint16, uint32}
+use Rattle.be_bytes.specs.Reading.{uint16, uint32}
 use Rattle.be_bytes.specs.declared.field.Field.{Field}
 use Rattle.be_bytes.specs.declared.field.Field.TheVariants.{Int16, Int64, Uint8, Uint16, Uint32}
 use Rattle.cmap_name.specs.Characters.{glyph_of_character}
 use Rattle.font_build.proofs.DesignLemmas.{has_names}
 use Rattle.font_build.proofs.FileLemmas.{InFile, uint16_by, uint32_by}
+use Rattle.font_build.proofs.SubstitutionLemmas.{gsub_there}
 use Rattle.font_build.specs.Characters.{HasCharacters}
 use Rattle.font_build.specs.FontReading.{tags_in}
 use Rattle.font_build.specs.FontTags.{font_tags}
@@ -123,10 +124,10 @@ has_characters project tables file are own = record {
   agree = record { bytes = tables.cmap.items; there = own.cmap; meant = are.agree };
 }
 
-pub has_fields : (project : Project) (tables : Tables) (file : List ℕ) → AreTablesOf project tables → InFile tables file → IsFontFile file → tags_in file ≡ Some font_tags → HasFields project file
+pub has_fields : (project : Project) (tables : Tables) (file : List ℕ) → AreTablesOf project tables → InFile tables file → IsFontFile file → tags_in file ≡ Some (font_tags (is_some tables.gsub)) → HasFields project file
 has_fields project tables file are own is_font tags = record {
   is_font = is_font;
-  tags = tags;
+  tags = tags ∙ ap (λ (there : Bool). Some (font_tags there)) (gsub_there project.design.last project.cells project.subs tables.gsub are.substitutions);
   facts = tells_facts (facts_of project) tables file are.fixed own;
   names = has_names project tables file are.design own;
 }

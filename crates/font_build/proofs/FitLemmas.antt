@@ -1,8 +1,8 @@
 -- What holds of the values that are made of a project within limits.
-use Rattle.std.proofs.Common.{◌≡◌, ℕ, ℤ, pos, negsuc, suc, ◌+◌, ◌-◌, ◌*◌, ◌<◌, ◌≤◌, List, [], ◌∷◌, ◌++◌, All, length, map, drop, sum_by, FitsSigned, refl, sym, ap, subst, ◌∙◌, arith}
+use Rattle.std.proofs.Common.{◌≡◌, ℕ, ℤ, pos, negsuc, ◌+◌, ◌-◌, ◌≤◌, List, [], ◌∷◌, All, length, map, drop, sum_by, FitsSigned, refl, sym, ap, subst, ◌∙◌, arith}
 use Rattle.std.proofs.lemmas.Int.{ints}
 use Rattle.std.proofs.lemmas.List.{length-drop, length-map}
-use Rattle.std.proofs.lemmas.List.Elements.{All-append, All-contains, All-drop, All-from_recursion, All-head, All-map, All-nil, All-tail, All-weaker, recursion_from_All}
+use Rattle.std.proofs.lemmas.List.Elements.{All-append, All-contains, All-drop, All-from_recursion, All-head, All-map, All-nil, All-tail, All-weaker}
 use Rattle.std.proofs.lemmas.List.Sums.{sum_by-cons}
 use Rattle.std.specs.Prelude.{◌≤ℤ◌}
 use Rattle.std.specs.Int.{w16}
@@ -27,7 +27,7 @@ use Rattle.glif.specs.declared.shape.Outline.{Outline}
 use Rattle.glif.specs.declared.shape.Point.{Point}
 use Rattle.glyf_loca.specs.Bounds.{bounds_of, outline_bounds, points_in, xs_of, ys_of}
 use Rattle.glyf_loca.specs.Limits.{AreFit}
-use Rattle.glyph_variations.specs.Conditions.{AreWritable, point_count}
+use Rattle.glyph_variations.specs.Conditions.{AreWritable}
 use Rattle.item_var_store.specs.Rows.{AreRows}
 use Rattle.plain_tables.specs.Conditions.{AreBoundsWithin, AreFacts, AreLengthsWithin, CodesRise, IsAdvanceWithin, IsNameWithin}
 use Rattle.region_support.specs.Coordinates.{coordinates_of, regions_in}

@@ -1,13 +1,13 @@
 -- What the file has of each glyph.
-use Rattle.std.proofs.Common.{◌≡◌, ℕ, ℤ, pos, negsuc, zero, suc, ◌+◌, ◌*◌, ◌<◌, ◌≤◌, ◌+ℤ◌, ◌*ℤ◌, Bool, List, [], ◌∷◌, All, length, map, drop, Option, Some, None, refl, sym, ap, subst, ◌∙◌, arith}
+use Rattle.std.proofs.Common.{◌≡◌, ℕ, ℤ, pos, negsuc, zero, suc, ◌*◌, ◌≤◌, ◌+ℤ◌, ◌*ℤ◌, Bool, List, [], ◌∷◌, length, map, drop, Option, Some, refl, sym, ap, subst, ◌∙◌, arith}
 use Rattle.std.proofs.lemmas.Int.{ints}
 use Rattle.std.proofs.lemmas.List.{length-map}
 use Rattle.std.proofs.lemmas.List.Elements.{All-get_or}
 use Rattle.std.specs.Prelude.{◌≤ℤ◌, slice_get}
 use Rattle.std.specs.Int.RustNames.{unsigned_abs}
 use Rattle.basics.specs.Optional.{◌>>=◌}
-use Rattle.delta_solve.specs.Deltas.{deltas_of, dot, model_value, scalars_at}
-use Rattle.delta_solve.specs.GlyphModels.{IsModelOf, default_of, delta_advance}
+use Rattle.delta_solve.specs.Deltas.{dot, model_value, scalars_at}
+use Rattle.delta_solve.specs.GlyphModels.{delta_advance}
 use Rattle.delta_solve.specs.Outlines.{advance_of}
 use Rattle.delta_solve.specs.declared.model.GlyphModel.{GlyphModel}
 use Rattle.delta_solve.specs.declared.model.GlyphTuple.{GlyphTuple}
@@ -18,16 +18,15 @@ use Rattle.font_build.proofs.Laws.{drawing_law}
 use Rattle.font_build.proofs.ListLemmas.{get_is, get_map, get_within, partner}
 use Rattle.font_build.specs.Counts.{AreOf}
 use Rattle.font_build.specs.FontReading.{advance_in, glyph_count_in, long_offsets_in, metric_count_in, metric_in, movement_in, outline_in, outlines_in}
-use Rattle.font_build.specs.FontTags.{GLYF, GVAR, HMTX, HVAR, LOCA}
-use Rattle.font_build.specs.Glyphs.{DrawsOutlines, HasGlyphs, HasTuples, IsGlyphOf}
+use Rattle.font_build.specs.FontTags.{GLYF, HMTX, HVAR, LOCA}
+use Rattle.font_build.specs.Glyphs.{HasGlyphs}
 use Rattle.font_build.specs.TableSteps.{AreTablesOf, later_advances}
 use Rattle.font_build.specs.declared.tables.Tables.{Tables}
 use Rattle.font_model.specs.DefaultOutline.{default_advance, default_outline}
-use Rattle.font_model.specs.Fit.{IsFit, IsFitModel, names_of}
+use Rattle.font_model.specs.Fit.{IsFit, IsFitModel}
 use Rattle.font_model.specs.declared.parts.Project.{Project}
 use Rattle.font_tables.specs.FontFacts.{facts_of}
 use Rattle.font_tables.specs.Outlines.{lengths_of, outlines_of}
-use Rattle.glif.specs.Limits.{IsWithinLimits}
 use Rattle.glif.specs.declared.shape.Outline.{Outline}
 use Rattle.glif.specs.declared.shape.Point.{Point}
 use Rattle.glyf_loca.specs.Bounds.{outline_bounds}
@@ -37,7 +36,7 @@ use Rattle.glyph_variations.specs.Variations.{AreVariations}
 use Rattle.hvar.specs.Advances.{MeansAdvances, advance_movement, advances_in}
 use Rattle.item_var_store.specs.DeltaSets.{weighted_sum}
 use Rattle.plain_tables.specs.GlyphMeasures.{glyphs_from}
-use Rattle.plain_tables.specs.HorizontalMetrics.{left_bearing, metric_of, metrics_in, metrics_of}
+use Rattle.plain_tables.specs.HorizontalMetrics.{metric_of, metrics_in, metrics_of}
 use Rattle.region_support.specs.Coordinates.{coordinates_of, regions_in}
 use Rattle.region_support.specs.MasterOrder.{AreMasters}
 use Rattle.region_support.specs.Regions.{FirstIsWhole, regions_of}
@@ -45,7 +44,6 @@ use Rattle.region_support.proofs.RegionLaw.{first_is_whole}
 use Rattle.sfnt_write.specs.FontFile.{table_in}
 use Rattle.variation_rules.specs.Scalar.{scalar_of}
 use Rattle.variation_rules.specs.declared.region.Triple.{Triple}
-use Rattle.variation_rules.specs.declared.tuple.TupleVariation.{TupleVariation}
 
 -- ---- the outline
 

@@ -7,3 +7,6 @@ pub mod FileLemmas
 pub mod GlyphLemmas
 pub mod DesignLemmas
 pub mod FieldLemmas
+pub mod NumberLemmas
+pub mod RuleLemmas
+pub mod SubstitutionLemmas

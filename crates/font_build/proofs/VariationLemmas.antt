@@ -1,19 +1,18 @@
 -- The tuples of glyphs: how many they are, and their table.
-use Rattle.std.proofs.Common.{◌≡◌, ℕ, zero, suc, ◌+◌, ◌*◌, ◌<◌, ◌≤◌, Bool, true, false, cond, MatchBool, List, [], ◌∷◌, ◌++◌, All, length, get_or, map, take, nat_lt, sum_by, count_by, refl, sym, ap, subst, ◌∙◌, arith}
+use Rattle.std.proofs.Common.{◌≡◌, ℕ, suc, ◌+◌, ◌*◌, ◌<◌, ◌≤◌, Bool, true, false, cond, MatchBool, List, [], ◌∷◌, ◌++◌, All, length, get_or, map, take, nat_lt, sum_by, refl, sym, ap, subst, ◌∙◌, arith}
 use Rattle.std.proofs.lemmas.Bool.{le-ltb, ltb-false, ltb-true}
 use Rattle.std.proofs.Math.Nat.{mul-le-mul_left}
-use Rattle.std.proofs.lemmas.List.{get_or_default, length-map, map_push}
+use Rattle.std.proofs.lemmas.List.{length-map, map_push}
 use Rattle.std.proofs.lemmas.List.Elements.{All-head, All-tail}
 use Rattle.std.proofs.lemmas.List.Sums.{sum_by-append, sum_by-cons, sum_by_more_le}
-use Rattle.std.specs.Prelude.{Option, Some, None, slice_get, slice_index}
+use Rattle.std.specs.Prelude.{slice_index}
 use Rattle.std.specs.List.{AllZip}
 use Rattle.delta_solve.specs.declared.model.GlyphModel.{GlyphModel}
 use Rattle.delta_solve.specs.declared.model.GlyphTuple.{GlyphTuple}
 use Rattle.fixpoint.specs.declared.plane.Pair.{Pair}
 use Rattle.font_build.proofs.ListLemmas.{get_is, get_map, get_within, partner, taken, zip_first, zip_length, zip_push, zip_second}
 use Rattle.font_build.specs.Counts.{AreOf, total}
-use Rattle.font_build.specs.Glyphs.{HasTuples}
-use Rattle.font_build.specs.TableSteps.{AreFound, AreOfModel, AreTotals, IsVaried, all_points, is_variable, variations_of}
+use Rattle.font_build.specs.TableSteps.{AreFound, AreOfModel, AreTotals, IsVaried, all_points, variations_of}
 use Rattle.font_model.specs.Fit.{points_in}
 use Rattle.glyph_variations.specs.Conditions.{point_count}
 use Rattle.glyph_variations.specs.Variations.{AreMoving, AreVariations, IsVariation, all_deltas, explicit_in, explicit_points, is_still_tuple, outline_points}

@@ -1,5 +1,5 @@
 -- How much of variations a font has, added up over its glyphs.
-use Rattle.std.specs.Prelude.{◌≡◌, ℕ, ◌+◌, List, [], ◌∷◌, length}
+use Rattle.std.specs.Prelude.{◌≡◌, ℕ, ◌+◌, List, ◌∷◌, length}
 use Rattle.std.specs.List.{AllZip}
 use Rattle.delta_solve.specs.declared.model.GlyphModel.{GlyphModel}
 use Rattle.font_build.specs.declared.built.Built.{Built}

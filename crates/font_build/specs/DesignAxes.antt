@@ -1,7 +1,6 @@
 -- What a font has of the axes and the named instances of its design space.
 use Rattle.std.specs.Prelude.{◌≡◌, ℕ, ℤ, List, map, Some, slice_get}
 use Rattle.std.specs.List.{AllZip}
-use Rattle.avar_fvar.specs.Axes.{FontAxes}
 use Rattle.design_axes.specs.declared.axis.Axis.{Axis}
 use Rattle.designspace.specs.declared.document.Designspace.{Designspace}
 use Rattle.font_build.specs.FontReading.{axes_of_file, mapped_on, name_in}

@@ -1,6 +1,9 @@
 -- The tags of the tables that a font has, as the numbers that their letters write.
-use Rattle.std.specs.Prelude.{ℕ, List, [], ◌∷◌}
+use Rattle.std.specs.Prelude.{ℕ, Bool, List, [], ◌∷◌, if◌then◌else◌}
 use Rattle.sfnt_write.specs.FontFile.{HEAD}
+
+abbrev pub GSUB : ℕ
+GSUB = 0x4753_5542
 
 abbrev pub HVAR : ℕ
 HVAR = 0x4856_4152
@@ -41,6 +44,10 @@ NAME = 0x6E61_6D65
 abbrev pub POST : ℕ
 POST = 0x706F_7374
 
--- of a font without rules of substitution
-abbrev pub font_tags : List ℕ
-font_tags = HVAR ∷ OS2 ∷ AVAR ∷ CMAP ∷ FVAR ∷ GLYF ∷ GVAR ∷ HEAD ∷ HHEA ∷ HMTX ∷ LOCA ∷ MAXP ∷ NAME ∷ POST ∷ []
+-- of every font
+abbrev pub plain_tags : List ℕ
+plain_tags = HVAR ∷ OS2 ∷ AVAR ∷ CMAP ∷ FVAR ∷ GLYF ∷ GVAR ∷ HEAD ∷ HHEA ∷ HMTX ∷ LOCA ∷ MAXP ∷ NAME ∷ POST ∷ []
+
+-- with substitutions or without
+abbrev pub font_tags : Bool → List ℕ
+font_tags substitutes = if substitutes then GSUB ∷ plain_tags else plain_tags

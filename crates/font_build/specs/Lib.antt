@@ -7,3 +7,4 @@ pub mod DesignAxes
 pub mod PlainFields
 pub mod Counts
 pub mod TableSteps
+pub mod Substitution

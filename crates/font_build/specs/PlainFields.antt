@@ -1,11 +1,10 @@
 -- What else a font has: the fields of its tables, its names, and which tables there are.
 use Rattle.std.specs.Prelude.{◌≡◌, ◌≢◌, ℕ, List, drop, length, All, Some}
 use Rattle.be_bytes.specs.declared.field.Field.{Field}
-use Rattle.cmap_name.specs.Names.{names_in}
 use Rattle.font_build.specs.FontReading.{names_of_file, tags_in}
 use Rattle.font_build.specs.FontTags.{HHEA, HMTX, MAXP, OS2, POST, font_tags}
 use Rattle.font_model.specs.declared.parts.Project.{Project}
-use Rattle.font_tables.specs.FontFacts.{facts_of}
+use Rattle.font_tables.specs.FontFacts.{facts_of, has_substitutions}
 use Rattle.font_tables.specs.FontNames as font_names
 use Rattle.plain_tables.specs.FixedFields.{AreRead, IsRead}
 use Rattle.plain_tables.specs.FontHeader.{head_of, maxp_of}
@@ -38,6 +37,6 @@ pub record TellsFacts (facts : Facts) (file : List ℕ) : Type 0 where
 -- it is a font file, whose tables are exactly these and tell this
 pub record HasFields (project : Project) (file : List ℕ) : Type 0 where
   pub is_font : IsFontFile file
-  pub tags : tags_in file ≡ Some font_tags
+  pub tags : tags_in file ≡ Some (font_tags (has_substitutions project.cells))
   pub facts : TellsFacts (facts_of project) file
   pub names : names_of_file file ≡ Some (font_names.names_of project)

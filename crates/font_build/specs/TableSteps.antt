@@ -1,6 +1,7 @@
 -- What the tables mean before they are put together.
-use Rattle.std.specs.Prelude.{◌≡◌, ℕ, ℤ, ◌+◌, ◌≤◌, List, [], ◌∷◌, drop, length, map, Some, slice_get, sum_by}
+use Rattle.std.specs.Prelude.{◌≡◌, ℕ, ℤ, ◌+◌, List, [], ◌∷◌, ◌++◌, drop, length, map, Option, Some, None, option_map, slice_get, Vec}
 use Rattle.std.specs.List.{AllZip}
+use Rattle.std.specs.declared.alloc.Global.{Global}
 use Rattle.avar_fvar.specs.Axes.{axes_in}
 use Rattle.avar_fvar.specs.SegmentMaps.{MapsAsAxes}
 use Rattle.cmap_name.specs.Characters.{Agree, glyph_of_character}
@@ -8,13 +9,13 @@ use Rattle.cmap_name.specs.Codes.{glyph_of}
 use Rattle.cmap_name.specs.Names as names
 use Rattle.delta_solve.specs.GlyphModels.{delta_advance}
 use Rattle.delta_solve.specs.declared.model.GlyphModel.{GlyphModel}
+use Rattle.feature_var.specs.Meaning.{IsTableOf}
 use Rattle.font_build.specs.Counts.{AreOf, total}
-use Rattle.font_build.specs.FontTags.{AVAR, CMAP, FVAR, GLYF, GVAR, HHEA, HMTX, HVAR, LOCA, MAXP, NAME, OS2, POST}
+use Rattle.font_build.specs.FontTags.{AVAR, CMAP, FVAR, GLYF, GSUB, GVAR, HHEA, HMTX, HVAR, LOCA, MAXP, NAME, OS2, POST}
 use Rattle.font_build.specs.Glyphs.{HasTuples}
 use Rattle.font_build.specs.declared.design_tables.DesignTables.{DesignTables}
 use Rattle.font_build.specs.declared.fixed_tables.FixedTables.{FixedTables}
 use Rattle.font_build.specs.declared.tables.Tables.{Tables}
-use Rattle.font_model.specs.Fit.{points_in}
 use Rattle.font_model.specs.declared.parts.Project.{Project}
 use Rattle.font_tables.specs.FontAxes.{axis_records, font_axes}
 use Rattle.font_tables.specs.FontFacts.{facts_of}
@@ -39,7 +40,6 @@ use Rattle.sfnt_write.specs.FontFile.{HEAD}
 use Rattle.sfnt_write.specs.Tables.{IsPlainHead, Slice}
 use Rattle.variation_rules.specs.declared.region.Triple.{Triple}
 use Rattle.variation_rules.specs.declared.tuple.TupleVariation.{TupleVariation}
-use Rattle.variation_rules.specs.VariationsTable.{IsVariationsTable}
 
 -- ---- the tables of fixed fields
 
@@ -108,12 +108,13 @@ pub record AreTablesOf (project : Project) (tables : Tables) : Type 0 where
   pub design : AreDesign project tables.design
   pub characters : (c : ℕ) → glyph_of_character tables.cmap.items c ≡ Some (glyph_of project.codes c)
   pub agree : Agree tables.cmap.items
+  pub substitutions : IsTableOf project.design.last project.cells project.subs (option_map (λ gsub. gsub.items) tables.gsub)
   pub advances : MeansAdvances (length project.design.axes) (drop 1 (regions_in project.supports)) (map later_advances project.models) tables.hvar.items
   pub varied : IsVaried (length project.design.axes) (regions_in project.supports) project.models tables.varied.bytes.items tables.varied.tuples tables.varied.explicit tables.varied.points
 
--- the tables by rising tags
-abbrev pub slices_of : Tables → List Slice
-slices_of tables =
+-- the tables of every font, by rising tags
+abbrev pub plain_slices_of : Tables → List Slice
+plain_slices_of tables =
     record { tag = HVAR; bytes = tables.hvar.items }
     ∷ record { tag = OS2; bytes = tables.fixed.os2.items }
     ∷ record { tag = AVAR; bytes = tables.design.avar.items }
@@ -129,3 +130,12 @@ slices_of tables =
     ∷ record { tag = NAME; bytes = tables.design.name.items }
     ∷ record { tag = POST; bytes = tables.fixed.post.items }
     ∷ []
+
+-- the table of substitutions, where it is there
+abbrev pub gsub_slices : Option (Vec ℕ Global) → List Slice
+gsub_slices None = []
+gsub_slices (Some gsub) = record { tag = GSUB; bytes = gsub.items } ∷ []
+
+-- all tables, by rising tags
+abbrev pub slices_of : Tables → List Slice
+slices_of tables = gsub_slices tables.gsub ++ plain_slices_of tables

@@ -1,13 +1,12 @@
-ghost use Rattle.std.specs.Prelude.{◌≡◌, ◌^◌, length, map, nat_lt, IfOk, Some};
+ghost use Rattle.std.specs.Prelude.{◌≡◌, ◌++◌, ◌^◌, is_some, length, map, nat_lt, IfOk, Some};
 ghost use Rattle.std.specs.List.{concat};
 ghost use Rattle.font_build.specs.FontReading.{tags_in};
 ghost use Rattle.font_build.specs.FontTags.{font_tags};
-ghost use Rattle.font_build.specs.TableSteps.{slices_of};
+ghost use Rattle.font_build.specs.TableSteps.{gsub_slices, slices_of};
 ghost use Rattle.sfnt_write.specs.Holds.{HoldsTables};
 ghost use Rattle.sfnt_write.specs.Tables.{IsPlainHead, slice_of, total_size};
 
 use crate::design_tables::DesignTables;
-use crate::fixed_tables::FixedTables;
 use crate::tables::Tables;
 use basics::{NoMemory, Seq};
 use sfnt_write::{Table, assemble};
@@ -26,39 +25,42 @@ fn listed(alloc: Global, tables: Tables) -> Result<Seq<Table>, NoMemory>
         fixed,
         design,
         cmap,
+        gsub,
         hvar,
         varied,
     } = tables;
-    let FixedTables {
-        head,
-        hhea,
-        hmtx,
-        maxp,
-        os2,
-        post,
-    } = fixed;
     let DesignTables { avar, fvar, name } = design;
-    let gvar = varied.bytes;
-    let list = Vec::from_array(
+    let plain = Vec::from_array(
         alloc,
         [
             table(*b"HVAR", hvar),
-            table(*b"OS/2", os2),
+            table(*b"OS/2", fixed.os2),
             table(*b"avar", avar),
             table(*b"cmap", cmap),
             table(*b"fvar", fvar),
             table(*b"glyf", glyf),
-            table(*b"gvar", gvar),
-            table(*b"head", head),
-            table(*b"hhea", hhea),
-            table(*b"hmtx", hmtx),
+            table(*b"gvar", varied.bytes),
+            table(*b"head", fixed.head),
+            table(*b"hhea", fixed.hhea),
+            table(*b"hmtx", fixed.hmtx),
             table(*b"loca", loca),
-            table(*b"maxp", maxp),
+            table(*b"maxp", fixed.maxp),
             table(*b"name", name),
-            table(*b"post", post),
+            table(*b"post", fixed.post),
         ],
     )?;
+    let list = with_gsub(plain, gsub)?;
     Ok(Seq::from_vec(list))
+}
+
+/// These tables, by rising tags, with that of substitutions first, where there is one: its tag is the least.
+fn with_gsub(mut list: Vec<Table>, gsub: Option<Vec<u8>>) -> Result<Vec<Table>, NoMemory>
+    ensures { IfOk result (λ all. map slice_of all.items ≡ gsub_slices gsub ++ map slice_of list.items) }
+{
+    if let Some(bytes) = gsub {
+        list.insert(0, table(*b"GSUB", bytes))?;
+    }
+    Ok(list)
 }
 
 /// A table of this tag and these bytes.
@@ -88,7 +90,7 @@ fn are_small(tables: &[Table]) -> bool
 pub(crate) fn pieces_of(alloc: Global, tables: Tables) -> Result<Seq<Vec<u8>>, NoMemory>
     requires { IsPlainHead tables.fixed.head.items }
     ensures holds { IfOk result (λ pieces. HoldsTables (slices_of tables) (concat (map (λ piece. piece.items) pieces))) }
-    ensures tags { IfOk result (λ pieces. tags_in (concat (map (λ piece. piece.items) pieces)) ≡ Some font_tags) }
+    ensures tags { IfOk result (λ pieces. tags_in (concat (map (λ piece. piece.items) pieces)) ≡ Some (font_tags (is_some tables.gsub))) }
 {
     let list = listed(alloc, tables)?;
     if are_small(list.as_slice()) {

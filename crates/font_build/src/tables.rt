@@ -9,6 +9,7 @@ use crate::fixed_tables::{FixedTables, tell_facts};
 use crate::variations::{Varied, vary};
 use basics::NoMemory;
 use cmap_name::cmap;
+use feature_var::gsub;
 use font_model::Project;
 use std::alloc::Global;
 
@@ -20,6 +21,8 @@ pub(crate) struct Tables {
     pub(crate) fixed: FixedTables,
     pub(crate) design: DesignTables,
     pub(crate) cmap: Vec<u8>,
+    /// None where no rule holds anywhere.
+    pub(crate) gsub: Option<Vec<u8>>,
     pub(crate) hvar: Vec<u8>,
     pub(crate) varied: Varied,
 }
@@ -33,6 +36,7 @@ pub(crate) fn tables_of(alloc: Global, project: &Project) -> Result<Tables, NoMe
     let fixed = tell_facts(alloc, &facts)?;
     let design = tell_design(alloc, project)?;
     let cmap = cmap(alloc, &project.codes)?;
+    let gsub = gsub(alloc, &project.cells, &project.subs, project.design.last)?;
     let hvar = move_advances(alloc, project)?;
     let varied = vary(alloc, project)?;
     Ok(Tables {
@@ -41,6 +45,7 @@ pub(crate) fn tables_of(alloc: Global, project: &Project) -> Result<Tables, NoMe
         fixed,
         design,
         cmap,
+        gsub,
         hvar,
         varied,
     })

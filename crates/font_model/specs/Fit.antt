@@ -8,7 +8,9 @@ use Rattle.region_support.specs.MasterOrder.{AreMasters}
 use Rattle.region_support.specs.Regions.{AreNormalisedLocations, regions_of}
 use Rattle.delta_solve.specs.declared.model.GlyphModel.{GlyphModel}
 use Rattle.glyph_variations.specs.Conditions.{IsVariable, point_count}
+use Rattle.rule_boxes.specs.Cells.{AreCells}
 use Rattle.designspace.specs.Limits as documents
+use Rattle.font_rules.specs.RuleNumbers.{AreAllNumbered, sets_of}
 use Rattle.font_model.specs.declared.parts.Project.{Project}
 use Rattle.font_model.specs.DefaultOutline.{default_outline}
 use Rattle.font_model.specs.Fonts.{numbered}
@@ -21,9 +23,10 @@ pub record IsGlyphName (name : List ℕ) : Type 0 where
 abbrev pub names_of : List (List ℕ × ℕ) → List (List ℕ)
 names_of entries = map (λ entry. entry.0) entries
 
--- 1 to 32,510 names, each with its position as its number
+-- 1 to 32,510 names that differ, each with its position as its number
 pub record AreGlyphNames (entries : List (List ℕ × ℕ)) : Type 0 where
   pub numbers : entries ≡ numbered 0 (names_of entries)
+  pub once : outlines.AreDistinct (names_of entries)
   pub some : 1 ≤ length entries
   pub few : length entries ≤ 32510
   pub each : All IsGlyphName (names_of entries)
@@ -61,3 +64,5 @@ pub record IsFit (project : Project) : Type 0 where
   pub model_each : length project.models ≡ length project.names.entries
   pub models : All (IsFitModel (length project.sorted)) project.models
   pub small : sum_by points_in project.models ≤ 16777216
+  pub subs : AreAllNumbered project.names.entries project.design.rules project.subs
+  pub cells : AreCells (length project.design.axes) (sets_of project.design.rules) project.cells

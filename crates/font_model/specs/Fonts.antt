@@ -1,12 +1,14 @@
 -- The font that sources describe, as a plain value, and the project that stands for it.
-use Rattle.std.specs.Prelude.{◌≡◌, ℕ, ℤ, ◌+◌, List, [], ◌∷◌, map}
+use Rattle.std.specs.Prelude.{◌≡◌, ℕ, ℤ, ◌+◌, List, [], ◌∷◌, length, map}
 use Rattle.std.specs.List.{AllZip}
 use Rattle.fontinfo.specs.declared.info.Info.{Info}
 use Rattle.glif.specs.declared.shape.Outline.{Outline}
 use Rattle.region_support.specs.Coordinates.{coordinates_of, regions_in}
 use Rattle.region_support.specs.Regions.{regions_of}
 use Rattle.delta_solve.specs.GlyphModels.{IsModelOf}
+use Rattle.rule_boxes.specs.Cells.{AreCells}
 use Rattle.designspace.specs.declared.document.Designspace.{Designspace}
+use Rattle.font_rules.specs.RuleNumbers.{AreAllNumbered, sets_of}
 use Rattle.font_model.specs.declared.parts.Project.{Project}
 
 -- The design space; what the default source says of the font; the names of the glyphs in glyph order; the glyph of each
@@ -34,3 +36,5 @@ pub record IsProjectOf (font : Font) (project : Project) : Type 0 where
   pub locations : coordinates_of project.sorted ≡ font.locations
   pub regions : regions_in project.supports ≡ regions_of font.locations
   pub models : AllZip (IsModelOf (regions_of font.locations) font.locations) font.glyphs project.models
+  pub subs : AreAllNumbered (numbered 0 font.names) font.design.rules project.subs
+  pub cells : AreCells (length font.design.axes) (sets_of font.design.rules) project.cells

@@ -4,6 +4,7 @@ use designspace::Designspace;
 use fontinfo::Info;
 use indexmap::IndexMap;
 use region_support::{Location, Support};
+use rule_boxes::Cell;
 
 /// What a font is built from.
 #[derive(Drop)]
@@ -22,4 +23,9 @@ pub struct Project {
     pub sorted: Seq<Location>,
     /// The model of each glyph, in glyph order.
     pub models: Seq<GlyphModel>,
+    /// For each rule of the design space, in their order, the numbers of the glyphs of its substitutions: the one that is
+    /// replaced, and its substitute.
+    pub subs: Seq<Seq<(u16, u16)>>,
+    /// The boxes of the design space in which some rules hold, each with the numbers of these.
+    pub cells: Seq<Cell>,
 }

@@ -12,7 +12,9 @@ use Rattle.region_support.specs.Regions.{regions_of}
 use Rattle.delta_solve.specs.GlyphModels.{IsModelOf}
 use Rattle.delta_solve.specs.declared.model.GlyphModel.{GlyphModel}
 use Rattle.font_sources.specs.declared.found.FontSources.{FontSources}
-use Rattle.font_model.specs.Fonts.{Font, IsProjectOf}
+use Rattle.rule_boxes.specs.Cells.{AreCells}
+use Rattle.font_rules.specs.RuleNumbers.{AreAllNumbered, sets_of}
+use Rattle.font_model.specs.Fonts.{Font, IsProjectOf, numbered}
 use Rattle.font_model.specs.declared.parts.Project.{Project}
 use Rattle.font_project.specs.Columns.{columns, rows_in}
 use Rattle.font_project.specs.Deltas.{all_fit}
@@ -21,9 +23,10 @@ use Rattle.font_project.specs.Making.{IsJoinedOf, MakesProject, StopsWith}
 use Rattle.font_project.specs.Masters.{AreReady, locations, regions}
 use Rattle.font_project.specs.Presence.{are_there, drawn_sources}
 use Rattle.font_project.specs.Units.{have_units}
-use Rattle.font_project.specs.Unruled.{is_unruled}
+use Rattle.font_project.specs.Ruled.{AreRuled, rules_of}
 use Rattle.font_project.specs.declared.drawn.DrawnSource.{DrawnSource}
 use Rattle.font_project.specs.declared.masters.Masters.{Masters}
+use Rattle.font_project.specs.declared.ruled.Ruled.{Ruled}
 use Rattle.font_project.specs.declared.outlined.OutlinedSource.{OutlinedSource}
 
 -- the fault of a reading is the right answer where the reading is
@@ -43,36 +46,38 @@ font_with found codes outlined = record {
   glyphs = columns (rows_in outlined found.order) (length found.names);
 }
 
-pub font_fits : (path : List ℕ) (found : FontSources) (codes : List (ℕ × ℕ)) (outlined : List OutlinedSource) → is_unruled path found.design.rules ≡ Ok tt
+pub font_fits : (path : List ℕ) (found : FontSources) (codes : List (ℕ × ℕ)) (outlined : List OutlinedSource) (subs : List (List (ℕ × ℕ))) → rules_of path found ≡ Ok subs
     → all_fit (master_regions found) (master_locations found) (rows_in outlined found.order) found.names ≡ Ok tt → font_of path found codes outlined ≡ Ok (font_with found codes outlined)
 unfolding font_of
-font_fits path found codes outlined unruled fit =
-    ap (λ (r : Result (Unit {0}) Fault). r >>= λ _. all_fit (master_regions found) (master_locations found) (rows_in outlined found.order) found.names >>= λ _. Ok (font_with found codes outlined)) unruled
+font_fits path found codes outlined subs ruled fit =
+    ap (λ (r : Result (List (List (ℕ × ℕ))) Fault). r >>= λ _. all_fit (master_regions found) (master_locations found) (rows_in outlined found.order) found.names >>= λ _. Ok (font_with found codes outlined)) ruled
     ∙ ap (λ (r : Result (Unit {0}) Fault). r >>= λ _. Ok (font_with found codes outlined)) fit
 
 -- a delta that doesn't fit stops the whole
-pub fit_stops : (path : List ℕ) (found : FontSources) (codes : List (ℕ × ℕ)) (outlined : List OutlinedSource) (stop : ReadStop) → is_unruled path found.design.rules ≡ Ok tt
+pub fit_stops : (path : List ℕ) (found : FontSources) (codes : List (ℕ × ℕ)) (outlined : List OutlinedSource) (subs : List (List (ℕ × ℕ))) (stop : ReadStop) → rules_of path found ≡ Ok subs
     → StopsBy stop (all_fit (master_regions found) (master_locations found) (rows_in outlined found.order) found.names) → StopsBy stop (font_of path found codes outlined)
 unfolding font_of
-fit_stops path found codes outlined (Refused fault) unruled stops =
-    ap (λ (r : Result (Unit {0}) Fault). r >>= λ _. all_fit (master_regions found) (master_locations found) (rows_in outlined found.order) found.names >>= λ _. Ok (font_with found codes outlined)) unruled
+fit_stops path found codes outlined subs (Refused fault) ruled stops =
+    ap (λ (r : Result (List (List (ℕ × ℕ))) Fault). r >>= λ _. all_fit (master_regions found) (master_locations found) (rows_in outlined found.order) found.names >>= λ _. Ok (font_with found codes outlined)) ruled
     ∙ ap (λ (r : Result (Unit {0}) Fault). r >>= λ _. Ok (font_with found codes outlined)) stops
-fit_stops path found codes outlined (ReadFault place) unruled stops = tt
-fit_stops path found codes outlined NoMemory unruled stops = tt
+fit_stops path found codes outlined subs (ReadFault place) ruled stops = tt
+fit_stops path found codes outlined subs NoMemory ruled stops = tt
 
 -- the project of all parts is that of the font
-pub is_project : (found : FontSources) (codes : List (ℕ × ℕ)) (outlined : List OutlinedSource) (masters : Masters) (models : List GlyphModel) (project : Project) → IsJoinedOf found codes masters models project
-    → AreReady masters → locations masters ≡ master_locations found
+pub is_project : (found : FontSources) (ruled : Ruled) (codes : List (ℕ × ℕ)) (outlined : List OutlinedSource) (masters : Masters) (models : List GlyphModel) (project : Project) → IsJoinedOf found ruled codes masters models project
+    → AreRuled found ruled → AreReady masters → locations masters ≡ master_locations found
     → AllZip (IsModelOf (regions masters) (locations masters)) (columns (rows_in outlined found.order) (length found.names)) models → IsProjectOf (font_with found codes outlined) project
-is_project found codes outlined masters models project joined ready same are = record {
+is_project found ruled codes outlined masters models project joined right ready same are = record {
   design = joined.design;
   info = joined.info;
-  names = joined.names;
+  names = ap (λ (names : _). names.entries) joined.names ∙ right.names;
   codes = joined.codes_are;
   locations = ap coordinates_of joined.sorted ∙ same;
   regions = ap regions_in joined.supports ∙ (ready.regions_are ∙ ap regions_of same);
   models = subst (λ (list : List GlyphModel). AllZip (IsModelOf (master_regions found) (master_locations found)) (columns (rows_in outlined found.order) (length found.names)) list) (sym joined.models_are)
       (subst (λ (at : List (List ℤ)). AllZip (IsModelOf (regions_of at) at) (columns (rows_in outlined found.order) (length found.names)) models) same are);
+  subs = subst (AreAllNumbered (numbered 0 found.names) found.design.rules) (sym joined.subs) right.subs;
+  cells = subst (AreCells (length found.design.axes) (sets_of found.design.rules)) (sym joined.cells) right.cells;
 }
 
 -- what is made of outlines that are right is made of what was drawn

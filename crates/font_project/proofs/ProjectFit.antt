@@ -6,7 +6,7 @@ use Rattle.std.proofs.lemmas.List.{ext_get_or, get_or-map, length-map}
 use Rattle.std.proofs.lemmas.List.Elements.{All-weaker}
 use Rattle.variation_rules.specs.PackedPoints.{count_from}
 use Rattle.ufo_source.specs.Limits as sources
-use Rattle.glif.specs.Limits.{IsWithinLimits}
+use Rattle.glif.specs.Limits.{AreDistinct, IsWithinLimits}
 use Rattle.glif.specs.declared.shape.Outline.{Outline}
 use Rattle.region_support.specs.MasterOrder.{AreMasters, axes_of}
 use Rattle.region_support.specs.Sorting.{locations_at}
@@ -25,6 +25,9 @@ use Rattle.font_project.specs.Columns.{column, columns, no_outlines, nothing, ro
 use Rattle.font_project.specs.Fonts.{default_number, default_outlined, master_locations}
 use Rattle.font_project.specs.Limits.{AreOutlinedWithin, IsFrameWithin}
 use Rattle.font_project.specs.Making.{IsJoinedOf}
+use Rattle.font_project.specs.Ruled.{AreRuled}
+use Rattle.font_project.specs.declared.ruled.Ruled.{Ruled}
+use Rattle.font_rules.specs.RuleNumbers.{AreAllNumbered}
 use Rattle.font_project.specs.Masters.{AreFitRows, AreReady, AreTuplesWithin, locations, regions}
 use Rattle.font_project.specs.Numbers.{default_first}
 use Rattle.font_project.specs.Sizes.{are_few, outline_size}
@@ -51,6 +54,7 @@ fit_names found entries frame is =
     let some : 0 < length found.names = below_length found.names 0 _ frame.names.first in
     subst AreGlyphNames (sym is) (record {
       numbers = ap (numbered 0) (sym (names_back found.names 0));
+      once = subst AreDistinct (sym (names_back found.names 0)) frame.names.once;
       some = omega (arith, numbered_length found.names 0, some);
       few = omega (arith, numbered_length found.names 0, frame.names.few);
       each = subst (All IsGlyphName) (sym (names_back found.names 0))
@@ -153,20 +157,21 @@ few_points found outlined masters models frame within fit are =
     let product : length outlined * sum_by outline_size own ≡ length found.design.sources * sum_by outline_size own = ap (λ (n : ℕ). n * sum_by outline_size own) within.one_each in
     omega (arith, sum, few, product)
 
-pub is_fit : (found : FontSources) (codes : List (ℕ × ℕ)) (outlined : List OutlinedSource) (masters : Masters) (models : List GlyphModel) (project : Project) → IsFrameWithin found → AreGlyphCodes (length found.names) codes
-    → AreOutlinedWithin found.names (length found.design.sources) (default_number found) outlined → IsJoinedOf found codes masters models project → AreReady masters → locations masters ≡ master_locations found
+pub is_fit : (found : FontSources) (ruled : Ruled) (codes : List (ℕ × ℕ)) (outlined : List OutlinedSource) (masters : Masters) (models : List GlyphModel) (project : Project) → IsFrameWithin found → AreGlyphCodes (length found.names) codes
+    → AreOutlinedWithin found.names (length found.design.sources) (default_number found) outlined → IsJoinedOf found ruled codes masters models project → AreRuled found ruled → AreReady masters → locations masters ≡ master_locations found
     → length masters.sorted ≡ length found.design.sources → AllZip (IsModelOf (regions masters) (locations masters)) (columns (rows_in outlined found.order) (length found.names)) models → All AreTuplesWithin models → IsFit project
-is_fit found codes outlined masters models project frame characters within joined ready same one_each are tuples =
+is_fit found ruled codes outlined masters models project frame characters within joined right ready same one_each are tuples =
     let rows = fit_all found outlined frame within in
-    let entries : length project.names.entries ≡ length found.names = ap length joined.names ∙ numbered_length found.names 0 in
+    let named : project.names.entries ≡ numbered 0 found.names = ap (λ (names : _). names.entries) joined.names ∙ right.names in
+    let entries : length project.names.entries ≡ length found.names = ap length named ∙ numbered_length found.names 0 in
     let axes : axes_of (locations masters) ≡ length found.design.axes = ap axes_of same ∙ master_axes found frame in
-    let plain : Project = record { design = found.design; info = found.info; names = project.names; codes = codes; supports = masters.supports; sorted = masters.sorted; models = models } in
-    let is : project ≡ plain = λ i. record { design = joined.design i; info = joined.info i; names = project.names; codes = joined.codes_are i; supports = joined.supports i; sorted = joined.sorted i; models = joined.models_are i } in
+    let plain : Project = record { design = found.design; info = found.info; names = project.names; codes = codes; supports = masters.supports; sorted = masters.sorted; models = models; subs = ruled.substitutions.subs; cells = ruled.substitutions.cells } in
+    let is : project ≡ plain = λ i. record { design = joined.design i; info = joined.info i; names = project.names; codes = joined.codes_are i; supports = joined.supports i; sorted = joined.sorted i; models = joined.models_are i; subs = joined.subs i; cells = joined.cells i } in
     let fit : IsFit plain = record {
       design = frame.design;
       numbers = frame.info.numbers;
       texts = frame.info.texts;
-      names = fit_names found project.names.entries frame joined.names;
+      names = fit_names found project.names.entries frame named;
       codes = subst (λ (n : ℕ). AreGlyphCodes n codes) (sym entries) characters;
       masters = record {
         masters = subst (λ (n : ℕ). AreMasters n (locations masters)) axes ready.in_order;
@@ -177,5 +182,7 @@ is_fit found codes outlined masters models project frame characters within joine
       model_each = zip_length (IsModelOf (regions masters) (locations masters)) (columns (rows_in outlined found.order) (length found.names)) models are ∙ (columns_length (rows_in outlined found.order) (length found.names) ∙ sym entries);
       models = fit_models found outlined masters models (subst (λ (n : ℕ). AreFitRows n (length found.names) (rows_in outlined found.order)) (sym one_each) rows) ready (omega (arith, one_each, within.there)) are tuples;
       small = few_points found outlined masters models frame within rows are;
+      subs = subst (λ (entries : List (List ℕ × ℕ)). AreAllNumbered entries found.design.rules ruled.substitutions.subs) (sym named) right.subs;
+      cells = right.cells;
     } in
     subst IsFit (sym is) fit

@@ -22,7 +22,7 @@ use Rattle.font_project.specs.Components.{have_bases}
 use Rattle.font_project.specs.Outlining.{are_flat, outlined_sources}
 use Rattle.font_project.specs.Shapes.{have_shapes}
 use Rattle.font_project.specs.Sizes.{are_few}
-use Rattle.font_project.specs.Unruled.{is_unruled}
+use Rattle.font_project.specs.Ruled.{rules_of}
 use Rattle.font_project.specs.Codes.{codes_of}
 use Rattle.font_project.specs.Columns.{no_outlines, rows_in, columns}
 use Rattle.font_project.specs.Deltas.{all_fit}
@@ -74,10 +74,10 @@ master_regions found = regions_of (master_locations found)
 abbrev pub default_number : FontSources → ℕ
 default_number found = slice_index_or found.order 0 0
 
--- the font of these code points and outlines, without rules, whose deltas fit; path is that of the document
+-- the font of these code points and outlines, whose rules can be built and whose deltas fit; path is that of the document
 unfoldable pub font_of : List ℕ → FontSources → List (ℕ × ℕ) → List OutlinedSource → Result Font Fault
 font_of path found codes outlined =
-    is_unruled path found.design.rules >>= λ _.
+    rules_of path found >>= λ _.
     all_fit (master_regions found) (master_locations found) (rows_in outlined found.order) found.names >>= λ _.
     Ok (record {
       design = found.design;

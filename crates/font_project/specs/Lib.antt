@@ -7,7 +7,7 @@ pub mod Components
 pub mod Outlining
 pub mod Shapes
 pub mod Sizes
-pub mod Unruled
+pub mod Ruled
 pub mod Codes
 pub mod Columns
 pub mod Deltas

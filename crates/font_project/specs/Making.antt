@@ -7,7 +7,8 @@ use Rattle.glif.specs.Limits.{IsWithinLimits}
 use Rattle.delta_solve.specs.declared.model.GlyphModel.{GlyphModel}
 use Rattle.font_sources.specs.declared.found.FontSources.{FontSources}
 use Rattle.font_project.specs.declared.masters.Masters.{Masters}
-use Rattle.font_model.specs.Fonts.{Font, IsProjectOf, numbered}
+use Rattle.font_project.specs.declared.ruled.Ruled.{Ruled}
+use Rattle.font_model.specs.Fonts.{Font, IsProjectOf}
 use Rattle.font_model.specs.declared.parts.Project.{Project}
 
 -- a fault is a right answer; a device that fails and want of memory may come before any
@@ -28,11 +29,13 @@ MakesProject IsRight (Ok project) =
 MakesProject IsRight (Err stop) = StopsWith IsRight stop
 
 -- the project has these parts
-pub record IsJoinedOf (found : FontSources) (codes : List (ℕ × ℕ)) (masters : Masters) (models : List GlyphModel) (project : Project) : Type 0 where
+pub record IsJoinedOf (found : FontSources) (ruled : Ruled) (codes : List (ℕ × ℕ)) (masters : Masters) (models : List GlyphModel) (project : Project) : Type 0 where
   pub design : project.design ≡ found.design
   pub info : project.info ≡ found.info
-  pub names : project.names.entries ≡ numbered 0 found.names
+  pub names : project.names ≡ ruled.names
   pub codes_are : project.codes ≡ codes
   pub supports : project.supports ≡ masters.supports
   pub sorted : project.sorted ≡ masters.sorted
   pub models_are : project.models ≡ models
+  pub subs : project.subs ≡ ruled.substitutions.subs
+  pub cells : project.cells ≡ ruled.substitutions.cells

@@ -20,13 +20,13 @@ mod numbers;
 mod outlined;
 mod presence;
 mod resolving;
+mod ruled;
 mod shapes;
 mod sizes;
 mod steps;
 #[cfg(test)]
 mod tests;
 mod units;
-mod unruled;
 
 pub use font_model::Project;
 pub use laws::one_answer;

@@ -12,14 +12,14 @@ use crate::deltas::models_of;
 use crate::drawn::{DrawnSource, drawn_sources};
 use crate::joining::outlined_of;
 use crate::masters::{Masters, masters_of};
-use crate::naming::numbered;
 use crate::outlined::OutlinedSource;
 use crate::presence::are_there;
+use crate::ruled::{Ruled, ruled_of};
 use crate::units::have_units;
-use crate::unruled::is_unruled;
-use basics::{NoMemory, Seq};
+use basics::Seq;
 use delta_solve::GlyphModel;
 use font_model::Project;
+use font_rules::Substitutions;
 use font_sources::{FontSources, read};
 use outside::Sources;
 use source_files::ReadStop;
@@ -27,16 +27,14 @@ use std::alloc::Global;
 
 /// The project of all that was computed.
 fn joined(
-    alloc: Global,
     found: FontSources,
+    ruled: Ruled,
     codes: Seq<(u32, u16)>,
     masters: Masters,
     models: Seq<GlyphModel>,
-) -> Result<Project, NoMemory>
-    requires frame { IsFrameWithin found }
-    ensures { IfOk result (IsJoinedOf found codes masters models) }
+) -> Project
+    ensures { IsJoinedOf found ruled codes masters models result }
 {
-    let names = numbered(alloc, found.names.as_slice())?;
     let FontSources {
         design,
         order: _,
@@ -49,7 +47,11 @@ fn joined(
         supports,
         table: _,
     } = masters;
-    Ok(Project {
+    let Ruled {
+        names,
+        substitutions: Substitutions { subs, cells },
+    } = ruled;
+    Project {
         design,
         info,
         names,
@@ -57,7 +59,9 @@ fn joined(
         supports,
         sorted,
         models,
-    })
+        subs,
+        cells,
+    }
 }
 
 /// The project of the font with these code points and outlines.
@@ -76,11 +80,11 @@ fn finished(
     ensures never { NeverFails result }
     ensures fit { IfOk result IsFit }
 {
-    is_unruled(alloc, path, found.design.rules.as_slice())?;
+    let ruled = ruled_of(alloc, path, &found)?;
     let masters = masters_of(alloc, &found.design, &found.order)?;
     let rows = rows_in(alloc, outlined.into_vec(), found.order.as_slice())?;
     let models = models_of(alloc, &masters, found.names.as_slice(), rows)?;
-    Ok(joined(alloc, found, codes, masters, models)?)
+    Ok(joined(found, ruled, codes, masters, models))
 }
 
 /// The project of the font whose sources draw this.
@@ -136,7 +140,8 @@ fn project_of(alloc: Global, path: &str, found: FontSources) -> Result<Project, 
 ///
 /// The first fault, in this order: those of reading, as `font_sources::read` tells them; UnitsDiffer; GlyphMissing; of
 /// components DanglingComponent and ComponentCycle, then ComponentShape; TooManyPoints and CoordinateRange of flattened
-/// outlines; ContourCount, PointCount and PointKind; TooMuch; NotBuilt for rules; DeltaRange.
+/// outlines; ContourCount, PointCount and PointKind; TooMuch;
+/// RuleGlyphUnknown and TooManyCells; DeltaRange.
 pub fn project<S: Sources>(alloc: Global, sources: &mut S, path: &str) -> Result<Project, ReadStop>
     ensures exact { Reads (S.state sources.old) (S.state sources.new) Anywhere (MakesProject (IsFontAt (S.state sources.old).files path.now) result) result }
     ensures fit { IfOk result IsFit }

@@ -11,7 +11,7 @@ use std::process::Abort;
 use std::test::Fail;
 
 /// The files of a font without a fault, parted by `|`. The document has two axes from 0 to 100, and a word for each
-/// source: its folder, and its location. A property list is written in parts: a key after `!`, a text after `'`, a number
+/// source: its folder, and its location; a rule is written after `%`. A property list is written in parts: a key after `!`, a text after `'`, a number
 /// after `#`, and brackets. A glyph is written as its advance, code points after `u`, contours in parentheses of points on
 /// the curve or, after `~`, off it, and components after `+`.
 const FILES: &str = "f=B100,0 A0,0 C50,0\
@@ -60,7 +60,7 @@ const FAULTS: [(&str, &str); 11] = [
         "C ContourCount a 0 0 1 0",
     ),
     (
-        "B/glyphs/a=600 ( 0,0 140,0 )|f=B100,0 A0,0 C50,0 rule",
+        "B/glyphs/a=600 ( 0,0 140,0 )|f=B100,0 A0,0 C50,0 %0,q,a",
         "B PointCount a 0 0 3 2",
     ),
     (
@@ -68,8 +68,8 @@ const FAULTS: [(&str, &str); 11] = [
         "B PointKind a 0 2 0 1",
     ),
     (
-        "f=D100,100 A0,0 B100,0 C0,100 rule|A/glyphs/a=1 ( -16384,0 1,0 ~1,0 )|B/glyphs/a=1 ( 16383,0 1,0 ~1,0 )|C/glyphs/a=1 ( 16383,0 1,0 ~1,0 )|A/glyphs/b=1 +a,0,0|B/glyphs/b=1 +a,0,0|C/glyphs/b=1 +a,0,0",
-        "f NotBuilt  1 0 0 0",
+        "f=D100,100 A0,0 B100,0 C0,100 %0,a,b %0,b,q %0,q,b|A/glyphs/a=1 ( -16384,0 1,0 ~1,0 )|B/glyphs/a=1 ( 16383,0 1,0 ~1,0 )|C/glyphs/a=1 ( 16383,0 1,0 ~1,0 )|A/glyphs/b=1 +a,0,0|B/glyphs/b=1 +a,0,0|C/glyphs/b=1 +a,0,0",
+        "f RuleGlyphUnknown q 1 0 0 0",
     ),
     (
         "f=D100,100 A0,0 B100,0 C0,100|A/glyphs/a=1 ( -16384,0 1,0 ~1,0 )|B/glyphs/a=1 ( 16383,0 1,0 ~1,0 )|C/glyphs/a=1 ( 16383,0 1,0 ~1,0 )|A/glyphs/b=1 +a,0,0|B/glyphs/b=1 +a,0,0|C/glyphs/b=1 +a,0,0",
@@ -157,22 +157,22 @@ fn glyph_of(alloc: Global, written: &str) -> Result<String, NoMemory> {
     )?)
 }
 
-/// The element of rules, with one where there is one.
-fn rules_of(has_rule: bool) -> &'static str {
-    if has_rule {
-        "<rules><rule/></rules>"
-    } else {
-        ""
-    }
+/// A rule that holds from a coordinate on the first axis on, and what replaces a glyph then.
+fn rule_of(alloc: Global, written: &str) -> Result<String, NoMemory> {
+    let (least, sub) = pair_of(written);
+    let (glyph, substitute) = pair_of(sub);
+    Ok(format!(in alloc;
+        "<rule><conditionset><condition name='x' minimum='{least}'/></conditionset><sub name='{glyph}' with='{substitute}'/></rule>"
+    )?)
 }
 
 /// The text of a document.
 fn document_of(alloc: Global, written: &str) -> Result<String, NoMemory> {
     let mut sources = String::new(alloc);
-    let mut has_rule = false;
+    let mut rules = String::new(alloc);
     for word in written.split(' ') {
-        if word == "rule" {
-            has_rule = true;
+        if let Some(rule) = word.strip_prefix('%') {
+            rules.push_str(rule_of(alloc, rule)?.as_str())?;
         } else if let Some((folder, at)) = word.split_at_checked(1) {
             let (x, y) = pair_of(at);
             let source = format!(in alloc;
@@ -181,9 +181,9 @@ fn document_of(alloc: Global, written: &str) -> Result<String, NoMemory> {
             sources.push_str(source.as_str())?;
         }
     }
-    let (sources, rules) = (sources.as_str(), rules_of(has_rule));
+    let (sources, rules) = (sources.as_str(), rules.as_str());
     Ok(format!(in alloc;
-        "<designspace format='5.0'><axes><axis tag='xxxx' name='x' minimum='0' default='0' maximum='100'/><axis tag='yyyy' name='y' minimum='0' default='0' maximum='100'/></axes><sources>{sources}</sources>{rules}</designspace>"
+        "<designspace format='5.0'><axes><axis tag='xxxx' name='x' minimum='0' default='0' maximum='100'/><axis tag='yyyy' name='y' minimum='0' default='0' maximum='100'/></axes><rules>{rules}</rules><sources>{sources}</sources></designspace>"
     )?)
 }
 
@@ -256,6 +256,20 @@ fn project_line(alloc: Global, project: &Project) -> Result<String, NoMemory> {
     for model in project.models.as_slice() {
         write_model(&mut line, model)?;
     }
+    for pairs in project.subs.as_slice() {
+        write!(line, " {:?}", pairs.as_slice())?;
+    }
+    for cell in project.cells.as_slice() {
+        if let ([low, ..], [high, ..]) = (cell.low.as_slice(), cell.high.as_slice()) {
+            write!(
+                line,
+                " {}..{}:{:?}",
+                low.raw(),
+                high.raw(),
+                cell.rules.as_slice()
+            )?;
+        }
+    }
     Ok(line)
 }
 
@@ -299,7 +313,16 @@ fn expect(rt: &impl Abort, alloc: Global, written: &str, answer: &str) -> Result
 
 #[test]
 fn projects(rt: HostRuntime) -> Result<(), Fail> {
-    expect(&rt, rt.alloc(), "", PROJECT)?;
+    let alloc = rt.alloc();
+    expect(&rt, alloc, "", PROJECT)?;
+    // The first rule holds from 8192 on, the second one from the default on.
+    let ruled = format!(in alloc; "{PROJECT} [(1, 2)] [(2, 0)] 0..8191:[1] 8192..16384:[0, 1]")?;
+    expect(
+        &rt,
+        alloc,
+        "f=B100,0 A0,0 C50,0 %50,a,b %0,b,.notdef",
+        ruled.as_str(),
+    )?;
     Ok(())
 }
 

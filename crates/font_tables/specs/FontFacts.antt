@@ -1,5 +1,5 @@
 -- What the font of a project tells in the tables of fixed fields.
-use Rattle.std.specs.Prelude.{false, List, map}
+use Rattle.std.specs.Prelude.{Bool, true, false, List, [], ◌∷◌, map}
 use Rattle.delta_solve.specs.Outlines.{advance_of}
 use Rattle.font_model.specs.Fit.{names_of}
 use Rattle.font_model.specs.declared.parts.Project.{Project}
@@ -7,8 +7,14 @@ use Rattle.font_tables.specs.Outlines.{lengths_of, needs_long_offsets, outlines_
 use Rattle.glif.specs.declared.shape.Outline.{Outline}
 use Rattle.glyf_loca.specs.Bounds.{outline_bounds}
 use Rattle.plain_tables.specs.declared.facts.Facts.{Facts}
+use Rattle.rule_boxes.specs.declared.cell.Cell.{Cell}
 
--- a font with these outlines; it has no table `GSUB`
+-- whether the font has a table `GSUB`: whether some rule holds anywhere
+abbrev pub has_substitutions : List Cell → Bool
+has_substitutions [] = false
+has_substitutions (cell ∷ cells) = true
+
+-- a font with these outlines
 abbrev pub facts_with : Project → List Outline → Facts
 facts_with project outlines = record {
   info = project.info;
@@ -18,7 +24,7 @@ facts_with project outlines = record {
   lengths = map lengths_of outlines;
   codes = project.codes;
   long = needs_long_offsets outlines;
-  substitutes = false;
+  substitutes = has_substitutions project.cells;
 }
 
 abbrev pub facts_of : Project → Facts

@@ -1,7 +1,7 @@
 ghost use Rattle.std.specs.Prelude.{◌≡◌, ℕ, ◌+◌, ◌≤◌, length, map, sum_by, All, IfOk};
 ghost use Rattle.delta_solve.specs.Outlines.{advance_of};
 ghost use Rattle.font_model.specs.Fit.{names_of};
-ghost use Rattle.font_tables.specs.FontFacts.{facts_with};
+ghost use Rattle.font_tables.specs.FontFacts.{facts_with, has_substitutions};
 ghost use Rattle.font_tables.specs.Outlines.{lengths_of, needs_long_offsets};
 ghost use Rattle.glif.specs.Limits.{IsWithinLimits};
 ghost use Rattle.glyf_loca.specs.Bounds.{outline_bounds};
@@ -13,6 +13,7 @@ use glif::{Outline, Point};
 use glyf_loca::Bounds;
 use indexmap::IndexMap;
 use plain_tables::Facts;
+use rule_boxes::Cell;
 use std::alloc::Global;
 
 /// What the font of a project tells in its tables of fixed fields, which draws these outlines with these bounds, and
@@ -42,8 +43,15 @@ pub fn facts(
         lengths,
         codes: Seq::from_vec(codes),
         long,
-        substitutes: false,
+        substitutes: has_substitutions(&project.cells),
     })
+}
+
+/// Whether some rule holds anywhere.
+fn has_substitutions(cells: &Seq<Cell>) -> bool
+    ensures { result ≡ has_substitutions cells.now }
+{
+    !cells.is_empty()
 }
 
 /// The names of the glyphs, in glyph order.

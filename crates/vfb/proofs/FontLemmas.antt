@@ -23,7 +23,7 @@ use Rattle.glyph_variations.proofs.ModelLemmas.{points_of_default}
 use Rattle.cmap_name.specs.Codes.{glyph_of}
 use Rattle.designspace.specs.declared.document.Designspace.{Designspace}
 use Rattle.sfnt_write.specs.Holds.{HasTable}
-use Rattle.font_model.specs.Fit.{IsFit}
+use Rattle.font_model.specs.Fit.{IsFit, names_of}
 use Rattle.font_model.specs.Fonts.{Font, IsProjectOf, numbered}
 use Rattle.font_model.specs.declared.parts.Project.{Project}
 use Rattle.font_build.specs.Characters.{HasCharacters}
@@ -32,6 +32,7 @@ use Rattle.font_build.specs.DesignAxes.{HasAxes}
 use Rattle.font_build.specs.FontTags.{GVAR}
 use Rattle.font_build.specs.Glyphs.{DrawsOutlines, HasGlyphs, HasTuples, IsGlyphOf}
 use Rattle.font_build.specs.PlainFields.{HasFields}
+use Rattle.font_build.specs.Substitution.{HasSubstitutions}
 use Rattle.font_build.specs.declared.built.Built.{Built}
 use Rattle.outside.specs.Files.{Files, content}
 use Rattle.vfb.specs.BuiltFont.{AdvancesAsModel, DrawsGlyph, HasVariations, IsFontFileOf, IsSummaryOf, MakesFont, NamesLeast, ReturnsMasters, RoundsTo}
@@ -53,6 +54,10 @@ get_all P [] zero x all is = absurd cc
 get_all P [] (suc i) x all is = absurd cc
 get_all P (first ∷ xs) zero x all is = let same : first ≡ x = cc in subst P same (all 0 first (omega arith))
 get_all P (first ∷ xs) (suc i) x all is = get_all P xs i x (λ k d below. all (suc k) d (omega (arith, below))) is
+
+numbered_names : (number : ℕ) (names : List (List ℕ)) → names_of (numbered number names) ≡ names
+numbered_names number [] = refl
+numbered_names number (name ∷ names) = ap (λ (rest : List (List ℕ)). name ∷ rest) (numbered_names (number + 1) names)
 
 zip_count : {A B : Type 0} (R : A → B → Type 0) (xs : List A) (ys : List B) → AllZip R xs ys → length ys ≡ length xs
 zip_count R [] [] all = refl
@@ -132,13 +137,19 @@ module _ (project : Project) (font : Font) (file : List ℕ) (fit : IsFit projec
     limits_at : (glyph : ℕ) (outlines : List Outline) → slice_get font.glyphs glyph ≡ Some outlines → All IsWithinLimits outlines
     limits_at glyph outlines stands = get_all (All IsWithinLimits) font.glyphs glyph outlines within stands
 
-    is_font_file : HasCharacters project file → HasAxes project.design file → HasFields project file → IsFontFileOf font file
-    is_font_file characters axes fields = record {
+    names_are : names_of project.names.entries ≡ font.names
+    names_are = ap names_of is.names ∙ numbered_names 0 font.names
+
+    is_font_file : HasCharacters project file → HasAxes project.design file → HasSubstitutions project.design (names_of project.names.entries) file → HasFields project file → IsFontFileOf font file
+    is_font_file characters axes substitutions fields = record {
       draws = λ glyph outlines stands. at_model glyph outlines stands (draws_glyph glyph outlines (limits_at glyph outlines stands));
       masters = λ glyph outlines stands. at_model glyph outlines stands (returns_masters glyph outlines (limits_at glyph outlines stands));
       advances = λ glyph outlines stands. at_model glyph outlines stands (advances_as_model glyph outlines (limits_at glyph outlines stands));
       characters = record { glyphs = λ c. characters.glyphs c ∙ ap (λ codes. Some (glyph_of codes c)) is.codes; agree = characters.agree };
       axes = subst (λ (design : Designspace). HasAxes design file) is.design axes;
+      substitutes =
+          subst (λ (design : Designspace). HasSubstitutions design font.names file) is.design
+          (subst (λ (names : List (List ℕ)). HasSubstitutions project.design names file) names_are substitutions);
       least = λ glyph outlines stands. at_model glyph outlines stands (names_least glyph outlines (limits_at glyph outlines stands));
       fields = record { project = project; is_project = is; has = fields };
     }
@@ -171,13 +182,13 @@ module _ (project : Project) (font : Font) (is : IsProjectOf font project) where
 
 pub makes_font : (project : Project) (font : Font) (out : List ℕ) (product : Product) (pieces : List (List ℕ)) (built : Built) → IsFit project
     → product.files ≡ record { path = out; pieces = pieces } ∷ [] → HasGlyphs project (concat pieces) → HasCharacters project (concat pieces)
-    → HasAxes project.design (concat pieces) → HasFields project (concat pieces) → IsCounted project built
+    → HasAxes project.design (concat pieces) → HasSubstitutions project.design (names_of project.names.entries) (concat pieces) → HasFields project (concat pieces) → IsCounted project built
     → product.text ≡ summary (length project.names.entries) (length project.sorted) (length project.design.axes) built.tuples built.explicit built.points
     → All (All IsWithinLimits) font.glyphs → IsProjectOf font project → MakesFont font out product
-makes_font project font out product pieces built fit files glyphs characters axes fields counted counts within is = record {
+makes_font project font out product pieces built fit files glyphs characters axes substitutions fields counted counts within is = record {
   pieces = pieces;
   files_are = files;
-  font_file = is_font_file project font (concat pieces) fit is within glyphs characters axes fields;
+  font_file = is_font_file project font (concat pieces) fit is within glyphs characters axes substitutions fields;
   said = is_summary project font is built product.text counted counts;
 }
 

@@ -26,6 +26,7 @@ use Rattle.font_build.specs.FontReading.{advance_in, character_in, outline_in}
 use Rattle.font_build.specs.FontTags.{CMAP, GVAR}
 use Rattle.font_build.specs.Glyphs.{HasTuples}
 use Rattle.font_build.specs.PlainFields.{HasFields}
+use Rattle.font_build.specs.Substitution.{HasSubstitutions}
 use Rattle.vfb.specs.Lines.{summary}
 use Rattle.vfb.specs.Product.{Product}
 
@@ -113,6 +114,10 @@ HasAdvances font file = AtGlyphs font (AdvancesAsModel font file)
 abbrev pub HasDesign : Font → List ℕ → Type 0
 HasDesign font file = HasAxes font.design file
 
+-- in place of each glyph stands, at every location, the one that the rules make of it
+abbrev pub SubstitutesAsRules : Font → List ℕ → Type 0
+SubstitutesAsRules font file = HasSubstitutions font.design font.names file
+
 -- every tuple names the least sets of points
 abbrev pub HasLeastSets : Font → List ℕ → Type 0
 HasLeastSets font file = AtGlyphs font (λ glyph outlines. HasVariations font file glyph outlines (NamesLeast font outlines))
@@ -125,6 +130,7 @@ pub record IsFontFileOf (font : Font) (file : List ℕ) : Type 0 where
   pub advances : HasAdvances font file
   pub characters : MapsCharacters font file
   pub axes : HasDesign font file
+  pub substitutes : SubstitutesAsRules font file
   pub least : HasLeastSets font file
   pub fields : TellsFields font file
 

@@ -6,7 +6,7 @@ ghost use Rattle.commands.specs.Proper.{IsProper};
 ghost use Rattle.vfb.specs.Making.{Makes};
 ghost use Rattle.commands.specs.Words.{asked};
 ghost use Rattle.vfb.specs.Work.{IsReadBy};
-ghost use Rattle.vfb.specs.BuiltFont.{HasAdvances, HasDesign, HasLeastSets, MapsCharacters, ReturnsAllMasters, TellsFields};
+ghost use Rattle.vfb.specs.BuiltFont.{HasAdvances, HasDesign, HasLeastSets, MapsCharacters, ReturnsAllMasters, SubstitutesAsRules, TellsFields};
 ghost use Rattle.vfb.specs.Performing.{Performs};
 ghost use Rattle.vfb.specs.Outcome.{IsAnswer, IsUsage, WritesNothing, IsWritten, IsSaid, IsCut, Draws, HasOfFont, HasWork, LacksRoom, EndsBy};
 
@@ -125,6 +125,7 @@ pub fn run<S: Sources, O: Outputs, T: Say>(
     ensures advances { (S.state sources.old).tells → (O.state outputs.old).tells → result ≡ Status.Ok → HasOfFont HasAdvances (command_of (map string_bytes words.now.items)) (S.state sources.old).files (O.state outputs.new).files }
     ensures characters { (S.state sources.old).tells → (O.state outputs.old).tells → result ≡ Status.Ok → HasOfFont MapsCharacters (command_of (map string_bytes words.now.items)) (S.state sources.old).files (O.state outputs.new).files }
     ensures axes { (S.state sources.old).tells → (O.state outputs.old).tells → result ≡ Status.Ok → HasOfFont HasDesign (command_of (map string_bytes words.now.items)) (S.state sources.old).files (O.state outputs.new).files }
+    ensures substitution { (S.state sources.old).tells → (O.state outputs.old).tells → result ≡ Status.Ok → HasOfFont SubstitutesAsRules (command_of (map string_bytes words.now.items)) (S.state sources.old).files (O.state outputs.new).files }
     ensures least { (S.state sources.old).tells → (O.state outputs.old).tells → result ≡ Status.Ok → HasOfFont HasLeastSets (command_of (map string_bytes words.now.items)) (S.state sources.old).files (O.state outputs.new).files }
     ensures fields { (S.state sources.old).tells → (O.state outputs.old).tells → result ≡ Status.Ok → HasOfFont TellsFields (command_of (map string_bytes words.now.items)) (S.state sources.old).files (O.state outputs.new).files }
     // Nothing gives up but for memory.

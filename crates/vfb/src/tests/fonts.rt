@@ -28,6 +28,39 @@ const CROWDED: &str = r#"<designspace format="5.0">
 </designspace>
 "#;
 
+/// From 500 on a blank stands in place of the square.
+const RULED: &str = r#"<designspace format="5.0">
+<axes><axis tag="wght" name="Weight" minimum="100" maximum="900" default="100"/></axes>
+<rules><rule name="blank"><conditionset><condition name="Weight" minimum="500"/></conditionset><sub name="box" with="space"/></rule></rules>
+<sources>
+<source filename="L.ufo"/>
+<source filename="B.ufo"><location><dimension name="Weight" xvalue="900"/></location></source>
+</sources>
+</designspace>
+"#;
+
+/// The axis ends before its rule holds.
+const NEVER_RULED: &str = r#"<designspace format="5.0">
+<axes><axis tag="wght" name="Weight" minimum="100" maximum="900" default="100"/></axes>
+<rules><rule><conditionset><condition name="Weight" minimum="1200"/></conditionset><sub name="box" with="space"/></rule></rules>
+<sources>
+<source filename="L.ufo"/>
+<source filename="B.ufo"><location><dimension name="Weight" xvalue="900"/></location></source>
+</sources>
+</designspace>
+"#;
+
+/// Its second substitution has no glyph to put in place.
+const MISRULED: &str = r#"<designspace format="5.0">
+<axes><axis tag="wght" name="Weight" minimum="100" maximum="900" default="100"/></axes>
+<rules><rule><conditionset/><sub name="box" with="space"/><sub name="space" with="dot"/></rule></rules>
+<sources>
+<source filename="L.ufo"/>
+<source filename="B.ufo"><location><dimension name="Weight" xvalue="900"/></location></source>
+</sources>
+</designspace>
+"#;
+
 /// As many axes as there may be.
 const EIGHT_AXES: &str = r#"<designspace format="5.0">
 <axes>
@@ -135,7 +168,7 @@ const BUILT: FontCase = FontCase {
     held: Held::Font,
 };
 
-const FONTS: [FontCase; 8] = [
+const FONTS: [FontCase; 10] = [
     BUILT,
     // The header with the directory is whole, and of the first table, `HVAR`, the first half is there.
     FontCase {
@@ -169,6 +202,17 @@ const FONTS: [FontCase; 8] = [
         document: CROWDED,
         status: 1,
         said: "refused SameLocation s.designspace - 2 3 0 0\n",
+        held: Held::Nothing,
+        ..BUILT
+    },
+    FontCase {
+        document: NEVER_RULED,
+        ..BUILT
+    },
+    FontCase {
+        document: MISRULED,
+        status: 1,
+        said: "refused RuleGlyphUnknown s.designspace dot 0 1 0 0\n",
         held: Held::Nothing,
         ..BUILT
     },
@@ -258,5 +302,21 @@ fn builds_fonts_in_their_room(rt: HostRuntime) -> Result<(), Fail> {
     };
     let held = held_after(&rt, alloc, &eight)?;
     assert!(rt; held.is_some());
+    Ok(())
+}
+
+/// A rule that holds somewhere brings a table: one lookup of one pair, and one record of one condition.
+#[test]
+fn builds_rules(rt: HostRuntime) -> Result<(), Fail> {
+    let alloc = rt.alloc();
+    let ruled = FontCase {
+        document: RULED,
+        ..BUILT
+    };
+    let font = held_after(&rt, alloc, &ruled)?.ok_or("a font")?;
+    // 15 tables, the first of which is `GSUB`, of 128 bytes: 46 before the lookups, 34 of these, 48 of the record.
+    assert_eq!(rt; font.get(4..6), Some([0, 15].as_slice()));
+    assert_eq!(rt; font.get(12..16), Some(b"GSUB".as_slice()));
+    assert_eq!(rt; font.get(24..28), Some([0, 0, 0, 128].as_slice()));
     Ok(())
 }

@@ -1,4 +1,4 @@
-use Rattle.std.proofs.Common.{◌≡◌, drop, length, map, sym, ap, subst, ◌∙◌, arith}
+use Rattle.std.proofs.Common.{◌≡◌, drop, length, map, sym, ap, subst, ◌∙◌}
 use Rattle.font_build.proofs.FitLemmas.{are_rows, later_regions_are}
 use Rattle.font_build.specs.TableSteps.{later_advances}
 use Rattle.hvar.specs.Advances.{MeansAdvances}

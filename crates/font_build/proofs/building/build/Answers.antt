@@ -4,6 +4,7 @@ use Rattle.font_build.proofs.DesignLemmas.{has_axes}
 use Rattle.font_build.proofs.FieldLemmas.{has_characters, has_fields}
 use Rattle.font_build.proofs.FileLemmas.{in_file}
 use Rattle.font_build.proofs.GlyphLemmas.{has_glyphs}
+use Rattle.font_build.proofs.SubstitutionLemmas.{has_substitutions_of}
 use Rattle.font_build.proofs.building.build.Goals as goal
 
 pub returns-clause-glyphs : goal.returns-clause-glyphs
@@ -32,6 +33,15 @@ returns-clause-axes c =
     let file : List ℕ = concat (map (λ (piece : Vec ℕ Global). piece.items) c.in_ok-pieces.pieces) in
     let own = in_file tables file c.in_ok-pieces.ensures.holds are.fixed.plain in
     has_axes project tables file are.design own
+
+pub returns-clause-substitutions : goal.returns-clause-substitutions
+returns-clause-substitutions c =
+    let project = c.args.project.now in
+    let tables = c.in_ok-tables.tables in
+    let are = c.in_ok-tables.ensures in
+    let file : List ℕ = concat (map (λ (piece : Vec ℕ Global). piece.items) c.in_ok-pieces.pieces) in
+    let own = in_file tables file c.in_ok-pieces.ensures.holds are.fixed.plain in
+    has_substitutions_of project tables file c.requires are c.in_ok-pieces.ensures.holds.is_font own
 
 pub returns-clause-fields : goal.returns-clause-fields
 returns-clause-fields c =

@@ -1,7 +1,7 @@
-use Rattle.std.proofs.Common.{◌≡◌, ◌<◌, ◌≤◌, length, map, sym, ap, subst, ◌∙◌, arith}
-use Rattle.font_build.proofs.FitLemmas.{all_variable, are_writable}
+use Rattle.std.proofs.Common.{◌≡◌, length, map, sym, ap, subst, ◌∙◌, arith}
+use Rattle.font_build.proofs.FitLemmas.{are_writable}
 use Rattle.font_build.proofs.VariationLemmas.{are_glyphs, is_varied}
-use Rattle.font_build.specs.TableSteps.{AreFound, all_points}
+use Rattle.font_build.specs.TableSteps.{all_points}
 use Rattle.gvar_table.specs.Table.{AreGlyphsOf}
 use Rattle.region_support.specs.Coordinates.{regions_in}
 use Rattle.font_build.proofs.variations.vary.Goals as goal

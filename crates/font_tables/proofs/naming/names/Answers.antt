@@ -1,4 +1,4 @@
-use Rattle.std.proofs.Common.{◌≡◌, ◌+◌, length, ap, sym, subst, arith}
+use Rattle.std.proofs.Common.{length, ap, sym, subst, arith}
 use Rattle.std.proofs.lemmas.List.{length-map}
 use Rattle.cmap_name.specs.Names.{AreNames}
 use Rattle.font_tables.specs.FontNames.{copyright_name, info_names, instance_names_of, labels_of}

@@ -1,4 +1,4 @@
-use Rattle.std.proofs.Common.{◌≡◌, codes, ◌++◌, length, take, ap, sym, ◌∙◌, subst, arith, rules}
+use Rattle.std.proofs.Common.{length, ap, sym, subst, arith}
 use Rattle.std.specs.List.{filter}
 use Rattle.std.specs.Str.{IsUtf8}
 use Rattle.font_tables.specs.FontNames.{is_plain}

@@ -17,4 +17,4 @@ returns c font within is =
     let pieces = map (λ piece. piece.items) built.pieces in
     let files : map shown_file c.in_ok-files.files.items ≡ record { path = out; pieces = pieces } ∷ [] =
     ap (map shown_file) c.in_ok-files.ensures.items ∙ ap (one_file out) c.into_vec.ensures in
-    makes_font c.args.project.now font out _ pieces built c.requires files has.glyphs has.characters has.axes has.fields has.counts c.in_ok-text.ensures within is
+    makes_font c.args.project.now font out _ pieces built c.requires files has.glyphs has.characters has.axes has.substitutions has.fields has.counts c.in_ok-text.ensures within is

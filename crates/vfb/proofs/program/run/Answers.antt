@@ -1,4 +1,4 @@
-use Rattle.vfb.specs.BuiltFont.{HasAdvances, HasDesign, HasLeastSets, MapsCharacters, ReturnsAllMasters, TellsFields}
+use Rattle.vfb.specs.BuiltFont.{HasAdvances, HasDesign, HasLeastSets, MapsCharacters, ReturnsAllMasters, SubstitutesAsRules, TellsFields}
 use Rattle.vfb.proofs.LeavingLemmas.{draws-at_ok, has-at_ok}
 use Rattle.vfb.proofs.SayingLemmas.{IsSaid-with_line, IsCut-with_line, complete-with_line}
 use Rattle.vfb.proofs.program.run.Goals as goal
@@ -26,6 +26,9 @@ returns-clause-characters g c = has-at_ok c.perform_words-ending.ensures c.into_
 
 pub returns-clause-axes : goal.returns-clause-axes
 returns-clause-axes g c = has-at_ok c.perform_words-ending.ensures c.into_status.ensures HasDesign (λ found file has. has.axes)
+
+pub returns-clause-substitution : goal.returns-clause-substitution
+returns-clause-substitution g c = has-at_ok c.perform_words-ending.ensures c.into_status.ensures SubstitutesAsRules (λ found file has. has.substitutes)
 
 pub returns-clause-least : goal.returns-clause-least
 returns-clause-least g c = has-at_ok c.perform_words-ending.ensures c.into_status.ensures HasLeastSets (λ found file has. has.least)

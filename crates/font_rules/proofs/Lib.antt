@@ -1,0 +1,3 @@
+pub mod Grids
+pub mod NamesLaw
+pub mod Renaming
