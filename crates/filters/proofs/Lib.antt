@@ -1,0 +1,3 @@
+mod Applying
+mod Firsts
+pub mod Images
