@@ -1,7 +1,7 @@
 -- The names of the kinds of refusal, as they are said.
 use Rattle.std.specs.Prelude.{ℕ, List, codes}
 use Rattle.basics.specs.declared.kinds.Kind.{Kind}
-use Rattle.basics.specs.declared.kinds.Kind.TheVariants.{MissingFile, FileTooLong, Unfinished, BadText, TooDeep, NotPlist, NotGlif, NotDesignspace, NotNumber, NumberRange, NotWhole, CoordinateRange, Curve, OpenContour, LineAfterOff, TooManyPoints, ScaledComponent, BadCode, GlyphName, FormatVersion, NoLayer, FileName, DuplicateCode, TooManyGlyphs, UnitsRange, MissingAttribute, NoAxes, TooManyAxes, BadTag, DuplicateAxis, AxisOrder, DiscreteAxis, CrossAxisMap, MapOrder, MapRange, MapCollapse, TooManySources, UnknownAxis, Anisotropic, TooManyRules, TooManySets, TooManySubs, TooManyInstances, NoDefaultSource, SameLocation, UnitsDiffer, GlyphMissing, ComponentShape, DanglingComponent, ComponentCycle, ContourCount, PointCount, PointKind, TooMuch, FilterRange, RuleGlyphUnknown, TooManyCells, DeltaRange, CertificateSize, UnknownGlyph, NameLength, NotBuilt}
+use Rattle.basics.specs.declared.kinds.Kind.TheVariants.{MissingFile, FileTooLong, Unfinished, BadText, TooDeep, NotPlist, NotGlif, NotDesignspace, NotNumber, NumberRange, NotWhole, CoordinateRange, Curve, OpenContour, LineAfterOff, TooManyPoints, ScaledComponent, BadCode, GlyphName, FormatVersion, NoLayer, FileName, DuplicateCode, TooManyGlyphs, UnitsRange, MissingAttribute, NoAxes, TooManyAxes, BadTag, DuplicateAxis, AxisOrder, DiscreteAxis, CrossAxisMap, MapOrder, MapRange, MapCollapse, TooManySources, UnknownAxis, Anisotropic, TooManyRules, TooManySets, TooManySubs, TooManyInstances, NoDefaultSource, SameLocation, UnitsDiffer, GlyphMissing, ComponentShape, DanglingComponent, ComponentCycle, ContourCount, PointCount, PointKind, TooMuch, FilterRange, RuleGlyphUnknown, TooManyCells, DeltaRange, CertificateSize, UnknownGlyph, NameLength}
 
 abbrev pub kind_name : Kind → List ℕ
 kind_name MissingFile = codes "MissingFile"
@@ -65,4 +65,3 @@ kind_name DeltaRange = codes "DeltaRange"
 kind_name CertificateSize = codes "CertificateSize"
 kind_name UnknownGlyph = codes "UnknownGlyph"
 kind_name NameLength = codes "NameLength"
-kind_name NotBuilt = codes "NotBuilt"

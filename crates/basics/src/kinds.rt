@@ -126,8 +126,6 @@ pub enum Kind {
     UnknownGlyph = 60,
     /// A name is longer than the limit.
     NameLength = 61,
-    /// A part of the sources is of a kind that isn't built yet.
-    NotBuilt = 62,
 }
 
 impl Kind {
@@ -197,7 +195,6 @@ impl Kind {
             Kind::CertificateSize => "CertificateSize",
             Kind::UnknownGlyph => "UnknownGlyph",
             Kind::NameLength => "NameLength",
-            Kind::NotBuilt => "NotBuilt",
         }
     }
 }

@@ -58,14 +58,14 @@ fn says_lines(rt: HostRuntime) -> Result<(), Fail> {
     };
     say_spot(
         &mut page,
-        Kind::NotBuilt,
+        Kind::UnknownGlyph,
         "a b/ä.glif",
         18446744073709551615,
         -9223372036854775808,
     )?;
     say_spot(&mut page, Kind::MissingFile, "", 0, 7)?;
     let text =
-        "at NotBuilt a b/ä.glif 18446744073709551615 -9223372036854775808\nat MissingFile  0 7\n";
+        "at UnknownGlyph a b/ä.glif 18446744073709551615 -9223372036854775808\nat MissingFile  0 7\n";
     assert_eq!(rt; page.text.as_slice(), text.as_bytes());
     Ok(())
 }
