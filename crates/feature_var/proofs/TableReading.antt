@@ -10,7 +10,7 @@ use Rattle.be_bytes.proofs.FieldLemmas.{uint32-field}
 use Rattle.be_bytes.proofs.RecordLemmas.{each_of}
 use Rattle.region_support.specs.Regions.{IsNormalised}
 use Rattle.rule_boxes.specs.declared.cell.Cell.{Cell}
-use Rattle.rule_boxes.specs.Cells.{IsPlace, lists_at}
+use Rattle.rule_boxes.specs.Cells.{IsLocation, lists_at}
 use Rattle.rule_boxes.specs.Substitution.{first_list, substituted}
 use Rattle.feature_var.specs.Features.{Feature, features_in, scripts_in}
 use Rattle.feature_var.specs.Layout.{feature_fields, header_fields, in_glyph_order, lookup_list_bytes, script_fields, table_bytes, variations_bytes, written_table}
@@ -63,7 +63,7 @@ tagged_back false cells lists few_lists singles few_cells blocks = letters_back 
 -- ---- meaning
 
 module _ (cells : List Cell) (subs : List (List (ℕ × ℕ))) (are : AreWritable cells subs) where
-  matching_are : (at : List ℤ) → IsPlace (axes_of cells) at → map (λ variation. listed_by [] variation.alternates) (matching (map variation_of cells) at) ≡ lists_at cells at
+  matching_are : (at : List ℤ) → IsLocation (axes_of cells) at → map (λ variation. listed_by [] variation.alternates) (matching (map variation_of cells) at) ≡ lists_at cells at
   matching_are at is =
       matching_lists (axes_of cells) cells at (each_of (IsWritableCell (axes_of cells) (length subs)) (IsBoxOn (axes_of cells)) (λ cell own. cell_box (axes_of cells) (length subs) cell own) cells (each_cell cells subs are)) is.count (recursion_from_All IsNormalised at is.normalised)
 
@@ -73,7 +73,7 @@ module _ (cells : List Cell) (subs : List (List (ℕ × ℕ))) (are : AreWritabl
       of_first_list (AreNumbers (length subs)) cells at (record { rising = λ k below. absurd (omega arith); there = tt })
       (each_of (IsWritableCell (axes_of cells) (length subs)) (λ cell. AreNumbers (length subs) cell.rules) (λ cell own. cell_numbers (axes_of cells) (length subs) cell own) cells (each_cell cells subs are))
 
-  substitution_is : (tag : List ℕ) (at : List ℤ) (glyph : ℕ) → IsPlace (axes_of cells) at → substitute (table_of tag cells (map in_glyph_order subs)) at glyph ≡ substituted nat_eq cells subs at glyph
+  substitution_is : (tag : List ℕ) (at : List ℤ) (glyph : ℕ) → IsLocation (axes_of cells) at → substitute (table_of tag cells (map in_glyph_order subs)) at glyph ≡ substituted nat_eq cells subs at glyph
   substitution_is tag at glyph is =
       ap (λ (numbers : List ℕ). act 0 (map in_glyph_order subs) numbers glyph) (first_listed (matching (map variation_of cells) at) ∙ ap first_list (matching_are at is))
       ∙ acts subs (first_list (lists_at cells at)) glyph (numbers_are at)

@@ -3,7 +3,7 @@ use Rattle.std.specs.Prelude.{◌≡◌, ◌≢◌, ℕ, ◌<◌, ◌≤◌, ℤ
 use Rattle.std.specs.List.Sorted.{IsStrictlyIncreasing}
 use Rattle.region_support.specs.Regions.{IsNormalised}
 use Rattle.rule_boxes.specs.declared.cell.Cell.{Cell}
-use Rattle.rule_boxes.specs.Cells.{IsPlace, lists_at}
+use Rattle.rule_boxes.specs.Cells.{IsLocation, lists_at}
 use Rattle.rule_boxes.specs.Substitution.{substituted}
 use Rattle.feature_var.specs.Table.{Substitutions, listed_by, matching, substitute, substitutions_in}
 
@@ -42,9 +42,9 @@ pub record MeansSubstitutions (last : Bool) (cells : List Cell) (subs : List (Li
   pub tag_is : table.feature.tag ≡ feature_tag last
   pub none_else : table.feature.lookups ≡ []
   pub axes_there : All (λ variation. All (λ condition. condition.axis < axes_of cells) variation.conditions) table.variations
-  pub matching_are : (at : List ℤ) → IsPlace (axes_of cells) at
+  pub matching_are : (at : List ℤ) → IsLocation (axes_of cells) at
       → map (λ variation. listed_by [] variation.alternates) (matching table.variations at) ≡ lists_at cells at
-  pub substitution_is : (at : List ℤ) (glyph : ℕ) → IsPlace (axes_of cells) at
+  pub substitution_is : (at : List ℤ) (glyph : ℕ) → IsLocation (axes_of cells) at
       → substitute table at glyph ≡ substituted nat_eq cells subs at glyph
 
 -- no table exactly where there are no boxes

@@ -21,7 +21,7 @@ use Rattle.font_model.specs.declared.parts.Project.{Project}
 use Rattle.font_rules.specs.Laws.{NumbersDiffer, named_subs}
 use Rattle.font_rules.specs.RuleNumbers.{number_of, sets_of}
 use Rattle.font_tables.specs.FontFacts.{has_substitutions}
-use Rattle.rule_boxes.specs.Cells.{IsCell, IsPlace, holding, lists_at, some_list}
+use Rattle.rule_boxes.specs.Cells.{IsCell, IsLocation, holding, lists_at, some_list}
 use Rattle.rule_boxes.specs.Substitution.{ruled, substituted}
 use Rattle.rule_boxes.specs.declared.cell.Cell.{Cell}
 use Rattle.sfnt_write.specs.FontFile.{IsFontFile, TableRecord, table_in}
@@ -42,8 +42,8 @@ gsub_there last cells subs (Some gsub) is = there_for last cells subs gsub.items
 record ActsByBoxes (axes : ℕ) (last : Bool) (cells : List Cell) (subs : List (List (ℕ × ℕ))) (gsub : Option (List ℕ)) : Type 0 where
   table : Option Substitutions
   read : read_if_there gsub ≡ Some table
-  glyphs : (at : List ℤ) (glyph : ℕ) → IsPlace axes at → substitute_by table at glyph ≡ substituted nat_eq cells subs at glyph
-  count : (at : List ℤ) → IsPlace axes at → match_count table at ≡ length (lists_at cells at)
+  glyphs : (at : List ℤ) (glyph : ℕ) → IsLocation axes at → substitute_by table at glyph ≡ substituted nat_eq cells subs at glyph
+  count : (at : List ℤ) → IsLocation axes at → match_count table at ≡ length (lists_at cells at)
   feature : IfSome table (λ own. own.feature.tag ≡ feature_tag last)
 
 -- it is there

@@ -9,7 +9,7 @@ use Rattle.font_build.specs.FontTags.{GSUB}
 use Rattle.font_model.specs.Fonts.{numbered}
 use Rattle.font_rules.specs.Laws.{named_subs}
 use Rattle.font_rules.specs.RuleNumbers.{number_of, sets_of}
-use Rattle.rule_boxes.specs.Cells.{IsPlace}
+use Rattle.rule_boxes.specs.Cells.{IsLocation}
 use Rattle.rule_boxes.specs.Substitution.{ruled}
 use Rattle.sfnt_write.specs.FontFile.{directory_in, table_in}
 
@@ -39,7 +39,7 @@ match_count (Some table) at = length (matching table.variations at)
 pub record HasSubstitutions (design : Designspace) (names : List (List ℕ)) (file : List ℕ) : Type 0 where
   pub table : Option Substitutions
   pub read : substitutions_of_file file ≡ Some table
-  pub ruled_are : (at : List ℤ) (glyph : ℕ) (name : List ℕ) → IsPlace (length design.axes) at → slice_get names glyph ≡ Some name
+  pub ruled_are : (at : List ℤ) (glyph : ℕ) (name : List ℕ) → IsLocation (length design.axes) at → slice_get names glyph ≡ Some name
       → number_of (numbered 0 names) (ruled bytes_eq (sets_of design.rules) (named_subs design.rules) at name) ≡ Some (substitute_by table at glyph)
-  pub one_matches : (at : List ℤ) → IsPlace (length design.axes) at → match_count table at ≤ 1
+  pub one_matches : (at : List ℤ) → IsLocation (length design.axes) at → match_count table at ≤ 1
   pub feature : IfSome table (λ own. own.feature.tag ≡ feature_tag design.last)

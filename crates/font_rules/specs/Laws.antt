@@ -1,7 +1,7 @@
 -- What holds of rules by names and by numbers.
 use Rattle.std.specs.Prelude.{◌≡◌, ◌≢◌, ℕ, ℤ, List, length, map, AllPairs, Option, Some, nat_eq}
 use Rattle.std.specs.Str.{bytes_eq}
-use Rattle.rule_boxes.specs.Cells.{AreCells, IsPlace, lists_at}
+use Rattle.rule_boxes.specs.Cells.{AreCells, IsLocation, lists_at}
 use Rattle.rule_boxes.specs.Substitution.{ruled, substituted}
 use Rattle.designspace.specs.declared.rule.Rule.{Rule}
 use Rattle.rule_boxes.specs.declared.cell.Cell.{Cell}
@@ -19,6 +19,6 @@ NumbersDiffer names = AllPairs (λ a b. a.1 ≢ b.1) names
 -- name: at every location, in every font whose glyphs have numbers of their own.
 abbrev pub SubstitutesByName : Type 0
 SubstitutesByName = (names : List (List ℕ × ℕ)) (rules : List Rule) (subs : List (List (ℕ × ℕ))) (axes : ℕ) (cells : List Cell) (at : List ℤ) (name : List ℕ) (glyph : ℕ)
-    → NumbersDiffer names → AreAllNumbered names rules subs → AreCells axes (sets_of rules) cells → IsPlace axes at
+    → NumbersDiffer names → AreAllNumbered names rules subs → AreCells axes (sets_of rules) cells → IsLocation axes at
     → number_of names name ≡ Some glyph
     → number_of names (ruled bytes_eq (sets_of rules) (named_subs rules) at name) ≡ Some (substituted nat_eq cells subs at glyph)

@@ -12,7 +12,7 @@ use Rattle.rule_boxes.specs.declared.area.Interval.{Interval}
 use Rattle.rule_boxes.specs.declared.area.Zone.{Zone}
 use Rattle.rule_boxes.specs.declared.cell.Cell.{Cell}
 use Rattle.rule_boxes.specs.declared.condition.Condition.{Condition}
-use Rattle.rule_boxes.specs.Cells.{IsPlace, is_between, has_location, lists_at, holding, some_list, IsCell, AreCells}
+use Rattle.rule_boxes.specs.Cells.{IsLocation, is_between, has_location, lists_at, holding, some_list, IsCell, AreCells}
 use Rattle.rule_boxes.specs.Grid.{grid_above, conditions_of}
 use Rattle.rule_boxes.specs.Answers.{HaveAxes}
 use Rattle.rule_boxes.specs.Areas.{has}
@@ -77,7 +77,7 @@ cells_tell rules zones at asked on_axes few merged =
     merged.lists at (fine_overlaid (length at) rules asked.few) (told_few rules at old told) ∙ ap (filter has_some) told.one in
     lists_law (length at) zones at (omega arith) ∙ (ap (map (numbers_from 0)) kept ∙ (filtered_numbers told.flags ∙ ap some_list told.numbers))
 
-pub place_tells : (axes : ℕ) (rules : List (List (List Condition))) (zones : List Zone) (at : List ℤ) → axes ≤ 8 → AreOn axes rules → length rules ≤ 64 → IsMerged (overlaid axes rules) zones → IsPlace axes at
+pub place_tells : (axes : ℕ) (rules : List (List (List Condition))) (zones : List Zone) (at : List ℤ) → axes ≤ 8 → AreOn axes rules → length rules ≤ 64 → IsMerged (overlaid axes rules) zones → IsLocation axes at
     → lists_at (cells_of axes zones) at ≡ some_list (holding rules at)
 place_tells axes rules zones at few on_axes few_rules merged place =
     let count = place.count in
@@ -115,7 +115,7 @@ low_within (suc axes) (i ∷ area) fine =
     let here : (int_le i.low i.low && int_le i.low i.high) ≡ true = grind (arith, ints) in
     and_from (int_le i.low i.low && int_le i.low i.high) (has area (map (λ interval. interval.low) (take axes area))) here (low_within axes area fine.1)
 
-low_place : (axes : ℕ) (zone : Zone) → axes ≤ 8 → IsFineZone zone → IsPlace axes (cell_of axes zone).low.items
+low_place : (axes : ℕ) (zone : Zone) → axes ≤ 8 → IsFineZone zone → IsLocation axes (cell_of axes zone).low.items
 low_place axes zone few fine =
     let long = fine.axes in
     record {
@@ -123,7 +123,7 @@ low_place axes zone few fine =
       normalised = All-from_recursion IsNormalised (map (λ interval. interval.low) (take axes zone.area)) (low_normal axes zone.area fine.each);
     }
 
-high_place : (axes : ℕ) (zone : Zone) → axes ≤ 8 → IsFineZone zone → IsPlace axes (cell_of axes zone).high.items
+high_place : (axes : ℕ) (zone : Zone) → axes ≤ 8 → IsFineZone zone → IsLocation axes (cell_of axes zone).high.items
 high_place axes zone few fine =
     let long = fine.axes in
     record {

@@ -11,7 +11,7 @@ use Rattle.rule_boxes.specs.declared.cell.Cell.{Cell}
 use Rattle.rule_boxes.specs.Conditions.{rule_holds}
 
 -- a location of the design space: a normalised coordinate for each axis
-pub record IsPlace (axes : ℕ) (at : List ℤ) : Type 0 where
+pub record IsLocation (axes : ℕ) (at : List ℤ) : Type 0 where
   pub count : length at ≡ axes
   pub normalised : All IsNormalised at
 
@@ -47,8 +47,8 @@ some_list (number ∷ numbers) = (number ∷ numbers) ∷ []
 -- A box of so many axes in which some of so many rules hold: no low end is above its high end, and the rules are told
 -- by their numbers, which rise.
 pub record IsCell (axes rules : ℕ) (cell : Cell) : Type 0 where
-  pub low : IsPlace axes cell.low.items
-  pub high : IsPlace axes cell.high.items
+  pub low : IsLocation axes cell.low.items
+  pub high : IsLocation axes cell.high.items
   pub ordered : AllZip ◌≤ℤ◌ cell.low.items cell.high.items
   pub some : cell.rules ≢ []
   pub rising : IsStrictlyIncreasing cell.rules
@@ -66,7 +66,7 @@ pub record Adjoin (a b : Cell) : Type 0 where
 -- The boxes tell at each location which rules hold: where some do, one box has the location, with these rules, and
 -- else none has it. No two of them could be one box.
 pub record AreCells (axes : ℕ) (rules : List (List (List Condition))) (cells : List Cell) : Type 0 where
-  pub lists : (at : List ℤ) → IsPlace axes at → lists_at cells at ≡ some_list (holding rules at)
+  pub lists : (at : List ℤ) → IsLocation axes at → lists_at cells at ≡ some_list (holding rules at)
   pub each : All (IsCell axes (length rules)) cells
   pub apart : AllPairs (λ a b. ¬ Adjoin a b) cells
   pub few : length cells ≤ 32768

@@ -3,7 +3,7 @@ use Rattle.std.specs.Prelude.{◌≡◌, ℕ, ℤ, ◌<ℤ◌, Bool, ◌&&◌, L
 use Rattle.rule_boxes.specs.declared.condition.Condition.{Condition}
 use Rattle.rule_boxes.specs.declared.cell.Cell.{Cell}
 use Rattle.rule_boxes.specs.Conditions.{meets}
-use Rattle.rule_boxes.specs.Cells.{IsPlace, has_location, lists_at, holding, some_list, AreCells}
+use Rattle.rule_boxes.specs.Cells.{IsLocation, has_location, lists_at, holding, some_list, AreCells}
 use Rattle.rule_boxes.specs.Substitution.{ruled, substituted}
 
 -- a condition whose greatest coordinate is below its least one never holds
@@ -13,7 +13,7 @@ NeverHolds = (condition : Condition) (at : List ℤ) → condition.high <ℤ con
 -- no location is in two of the boxes
 abbrev pub AreDisjoint : Type 0
 AreDisjoint = (axes : ℕ) (rules : List (List (List Condition))) (cells : List Cell) → AreCells axes rules cells
-    → (at : List ℤ) → IsPlace axes at → AllPairs (λ a b. (has_location a at && has_location b at) ≡ false) cells
+    → (at : List ℤ) → IsLocation axes at → AllPairs (λ a b. (has_location a at && has_location b at) ≡ false) cells
 
 -- The boxes make of a glyph what the rules do, one after another, where the lists at the location are those of the rules
 -- that hold there. `A` is whatever names glyphs.
