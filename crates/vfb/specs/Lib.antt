@@ -1,4 +1,6 @@
 pub mod BuiltFont
+pub mod Calls
+pub mod Choosing
 pub mod Ending
 pub mod Faults
 pub mod Glyph

@@ -5,6 +5,7 @@ use Rattle.std.specs.Fmt.{signed_decimal}
 use Rattle.outside.specs.Files.{IsPrefix}
 use Rattle.basics.specs.Kinds.{kind_name}
 use Rattle.basics.specs.declared.fault.Fault.{Fault}
+use Rattle.vfb.specs.Calls.{Misuse, words, called_filter}
 
 -- an empty text is shown as a dash
 abbrev pub or_dash : List ℕ → List ℕ
@@ -15,8 +16,9 @@ abbrev pub refused_line : Fault → List ℕ
 refused_line fault = concat (codes "refused " ∷ kind_name fault.spot.kind ∷ codes " " ∷ or_dash fault.path ∷ codes " " ∷ or_dash fault.spot.item ∷ codes " "
     ∷ decimal fault.spot.at ∷ codes " " ∷ decimal fault.spot.also ∷ codes " " ∷ signed_decimal fault.spot.first ∷ codes " " ∷ signed_decimal fault.spot.second ∷ codes "\n" ∷ [])
 
-abbrev pub usage_line : List ℕ
-usage_line = codes "usage words\n"
+abbrev pub usage_line : Misuse → List ℕ
+usage_line words = codes "usage words\n"
+usage_line (called_filter name) = concat (codes "usage filter " ∷ name ∷ codes "\n" ∷ [])
 
 abbrev pub read_fault_line : List ℕ → List ℕ
 read_fault_line path = concat (codes "read fault " ∷ path ∷ codes "\n" ∷ [])

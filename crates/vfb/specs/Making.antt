@@ -6,7 +6,7 @@ use Rattle.region_support.specs.Coordinates.{coordinates_of}
 use Rattle.source_files.specs.Stops.{StopsBy}
 use Rattle.source_files.specs.declared.stop.ReadStop.{ReadStop}
 use Rattle.source_files.specs.declared.stop.ReadStop.TheVariants as stop
-use Rattle.commands.specs.Command.{Command}
+use Rattle.vfb.specs.Calls.{Task}
 use Rattle.vfb.specs.Lines.{counts_line}
 use Rattle.vfb.specs.Masters.{Masters}
 use Rattle.vfb.specs.Glyph.{IsDataOf, IsDrawnBy}
@@ -38,16 +38,16 @@ MakesData reading (Ok glyph) =
     (masters : Masters) × (reading ≡ Ok masters) × IsDataOf masters glyph.bytes.items (counts_of glyph) × IsDrawnBy masters glyph.bytes.items
 MakesData reading (Err stop) = StopsBy stop reading
 
--- a fault is that of the command's files; a device that fails and want of memory may come before it
-abbrev pub Stops : Files → Command → ReadStop → Type 0
-Stops files command (stop.Refused fault) = IsWork files command (Err fault)
-Stops files command (stop.ReadFault path) = Unit {0}
-Stops files command stop.NoMemory = Unit {0}
+-- a fault is that of the task's files; a device that fails and want of memory may come before it
+abbrev pub Stops : Files → Task → ReadStop → Type 0
+Stops files task (stop.Refused fault) = IsWork files task (Err fault)
+Stops files task (stop.ReadFault path) = Unit {0}
+Stops files task stop.NoMemory = Unit {0}
 
 -- a call answered a product of the work that the files give, which leaves what it must wherever it is written; or it
 -- stopped by what they give
-abbrev pub Makes : Files → Command → Result product.Product ReadStop → Type 0
-Makes files command (Ok product) =
-    (work : Work) × IsWork files command (Ok work) × IsMadeOf command work (shown_product product)
-    × ((old : Files) → IsLeft command work (written (shown_product product).files old))
-Makes files command (Err stop) = Stops files command stop
+abbrev pub Makes : Files → Task → Result product.Product ReadStop → Type 0
+Makes files task (Ok product) =
+    (work : Work) × IsWork files task (Ok work) × IsMadeOf task.command work (shown_product product)
+    × ((old : Files) → IsLeft task.command work (written (shown_product product).files old))
+Makes files task (Err stop) = Stops files task stop

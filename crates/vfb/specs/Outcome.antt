@@ -1,9 +1,10 @@
 -- How a run ends: its status, what the files hold afterwards, and what was said.
-use Rattle.std.specs.Prelude.{◌≡◌, ℕ, ◌+◌, ◌<◌, ◌⊎◌, List, ◌++◌, length, codes, Option, Some, None, Ok, Err}
+use Rattle.std.specs.Prelude.{◌≡◌, ℕ, ◌+◌, ◌<◌, ◌⊎◌, List, ◌++◌, length, codes, Option, Ok, Err}
 use Rattle.outside.specs.Files.{Files, IsPrefix, content}
-use Rattle.commands.specs.Command.{Command, build}
+use Rattle.commands.specs.Command.{Command, tuples, build}
 use Rattle.font_model.specs.Fonts.{Font}
 use Rattle.font_project.specs.Fonts.{IsFontAt}
+use Rattle.vfb.specs.Calls.{Call, Image, Misuse, Task}
 use Rattle.vfb.specs.Lines.{AddsLine, refused_line, usage_line, read_fault_line, write_fault_line, no_memory_line}
 use Rattle.vfb.specs.Product.{Product, written, IsCutAt, IsCutIn, IsPathIn, Overfills}
 use Rattle.vfb.specs.Work.{Work, IsWork, IsReadBy, IsProductOf, IsDrawn, IsLeft}
@@ -20,33 +21,33 @@ status_number status.WriteFault = 4
 status_number status.NoMemory = 5
 status_number (status.Rejected _) = 6
 
--- a command whose files have no fault
-abbrev pub HasWork : Option Command → Files → Type 0
-HasWork None files = ⊥
-HasWork (Some command) files = (work : Work) × IsWork files command (Ok work)
+-- a task whose files have no fault
+abbrev pub HasWork : Call → Files → Type 0
+HasWork (Err misuse) files = ⊥
+HasWork (Ok task) files = (work : Work) × IsWork files task (Ok work)
 
 -- Where the files have no fault, the run isn't refused; where they have one, exactly that is answered. A device
 -- that fails and want of memory may come before either.
-abbrev pub IsAnswerTo : Command → Files → Status → Type 0
-IsAnswerTo command files status.Ok = HasWork (Some command) files
-IsAnswerTo command files (status.Refused fault) = IsWork files command (Err fault)
-IsAnswerTo command files status.Usage = ⊥
-IsAnswerTo command files status.ReadFault = Unit {0}
-IsAnswerTo command files status.WriteFault = HasWork (Some command) files
-IsAnswerTo command files status.NoMemory = Unit {0}
-IsAnswerTo command files (status.Rejected line) = ⊥
+abbrev pub IsAnswerTo : Task → Files → Status → Type 0
+IsAnswerTo task files status.Ok = HasWork (Ok task) files
+IsAnswerTo task files (status.Refused fault) = IsWork files task (Err fault)
+IsAnswerTo task files status.Usage = ⊥
+IsAnswerTo task files status.ReadFault = Unit {0}
+IsAnswerTo task files status.WriteFault = HasWork (Ok task) files
+IsAnswerTo task files status.NoMemory = Unit {0}
+IsAnswerTo task files (status.Rejected line) = ⊥
 
--- Words of a command are never answered by their usage, and words of none are, or for want of memory otherwise.
-abbrev pub IsUsage : Option Command → Status → Type 0
-IsUsage (Some command) state = state ≡ status.Usage → ⊥
-IsUsage None state = (state ≡ status.Usage) ⊎ (state ≡ status.NoMemory)
+-- Words of a task are never answered by their usage, and words of none are, or for want of memory otherwise.
+abbrev pub IsUsage : Call → Status → Type 0
+IsUsage (Ok task) state = state ≡ status.Usage → ⊥
+IsUsage (Err misuse) state = (state ≡ status.Usage) ⊎ (state ≡ status.NoMemory)
 
 -- The status that words and files lead to. Reading the words takes memory.
-abbrev pub IsAnswer : Option Command → Files → Status → Type 0
-IsAnswer None files status.Usage = Unit {0}
-IsAnswer None files status.NoMemory = Unit {0}
-IsAnswer None files _ = ⊥
-IsAnswer (Some command) files state = IsAnswerTo command files state
+abbrev pub IsAnswer : Call → Files → Status → Type 0
+IsAnswer (Err misuse) files status.Usage = Unit {0}
+IsAnswer (Err misuse) files status.NoMemory = Unit {0}
+IsAnswer (Err misuse) files _ = ⊥
+IsAnswer (Ok task) files state = IsAnswerTo task files state
 
 -- no file is begun
 abbrev pub WritesNothing : Status → Type 0
@@ -55,42 +56,42 @@ WritesNothing status.WriteFault = ⊥
 WritesNothing _ = Unit {0}
 
 -- at Ok the files of the product are written, and every other path holds what it held; at a write fault they are cut
-abbrev pub Writes : Command → Files → Files → Files → Status → Type 0
-Writes command files old new status.Ok = (product : Product) × IsProductOf files command product × (new ≡ written product.files old)
-Writes command files old new status.WriteFault = (product : Product) × IsProductOf files command product × IsCutIn product.files old new
-Writes command files old new _ = new ≡ old
+abbrev pub Writes : Task → Files → Files → Files → Status → Type 0
+Writes task files old new status.Ok = (product : Product) × IsProductOf files task product × (new ≡ written product.files old)
+Writes task files old new status.WriteFault = (product : Product) × IsProductOf files task product × IsCutIn product.files old new
+Writes task files old new _ = new ≡ old
 
 -- what the files hold: old as the run began, new as it ends
-abbrev pub IsWritten : Option Command → Files → Files → Files → Status → Type 0
-IsWritten None files old new state = new ≡ old
-IsWritten (Some command) files old new state = Writes command files old new state
+abbrev pub IsWritten : Call → Files → Files → Files → Status → Type 0
+IsWritten (Err misuse) files old new state = new ≡ old
+IsWritten (Ok task) files old new state = Writes task files old new state
 
 -- a prefix of the text and then the line of a fault of saying itself
 abbrev pub BreaksOff : Type 0 → List ℕ → List ℕ → List ℕ → Type 0
 BreaksOff risen text old new =
     risen × ((prefix : List ℕ) × IsPrefix prefix text × AddsLine risen (write_fault_line (codes "-")) (old ++ prefix) new)
 
--- The text said for a command, where risen says that the count of faults of saying rose.
-abbrev pub SaysOf : Command → Files → Type 0 → List ℕ → List ℕ → Status → Type 0
-SaysOf command files risen old new status.Ok = (product : Product) × IsProductOf files command product × (new ≡ old ++ product.text)
-SaysOf command files risen old new (status.Refused fault) = AddsLine risen (refused_line fault) old new
-SaysOf command files risen old new status.Usage = ⊥
-SaysOf command files risen old new status.ReadFault =
-    (path : List ℕ) × IsReadBy (Unit {0}) files command path × AddsLine risen (read_fault_line path) old new
-SaysOf command files risen old new status.WriteFault = (product : Product) × IsProductOf files command product
+-- The text said for a task, where risen says that the count of faults of saying rose.
+abbrev pub SaysOf : Task → Files → Type 0 → List ℕ → List ℕ → Status → Type 0
+SaysOf task files risen old new status.Ok = (product : Product) × IsProductOf files task product × (new ≡ old ++ product.text)
+SaysOf task files risen old new (status.Refused fault) = AddsLine risen (refused_line fault) old new
+SaysOf task files risen old new status.Usage = ⊥
+SaysOf task files risen old new status.ReadFault =
+    (path : List ℕ) × IsReadBy (Unit {0}) files task.command path × AddsLine risen (read_fault_line path) old new
+SaysOf task files risen old new status.WriteFault = (product : Product) × IsProductOf files task product
     × (((path : List ℕ) × IsPathIn product.files path × AddsLine risen (write_fault_line path) old new) ⊎ BreaksOff risen product.text old new)
-SaysOf command files risen old new status.NoMemory = AddsLine risen no_memory_line old new
-SaysOf command files risen old new (status.Rejected line) = ⊥
+SaysOf task files risen old new status.NoMemory = AddsLine risen no_memory_line old new
+SaysOf task files risen old new (status.Rejected line) = ⊥
 
--- the text said where the words are those of no command
-abbrev pub SaysUsage : Type 0 → List ℕ → List ℕ → Status → Type 0
-SaysUsage risen old new status.Usage = AddsLine risen usage_line old new
-SaysUsage risen old new status.NoMemory = AddsLine risen no_memory_line old new
-SaysUsage risen old new _ = ⊥
+-- the text said where the words are those of no task
+abbrev pub SaysUsage : Misuse → Type 0 → List ℕ → List ℕ → Status → Type 0
+SaysUsage misuse risen old new status.Usage = AddsLine risen (usage_line misuse) old new
+SaysUsage misuse risen old new status.NoMemory = AddsLine risen no_memory_line old new
+SaysUsage misuse risen old new _ = ⊥
 
-abbrev pub IsSaid : Option Command → Files → Type 0 → List ℕ → List ℕ → Status → Type 0
-IsSaid None files risen old new state = SaysUsage risen old new state
-IsSaid (Some command) files risen old new state = SaysOf command files risen old new state
+abbrev pub IsSaid : Call → Files → Type 0 → List ℕ → List ℕ → Status → Type 0
+IsSaid (Err misuse) files risen old new state = SaysUsage misuse risen old new state
+IsSaid (Ok task) files risen old new state = SaysOf task files risen old new state
 
 -- After a write fault: the path said is that of the file which is cut short, those before it being whole, or a dash
 -- where all files are whole and saying failed.
@@ -99,33 +100,37 @@ Fails product risen old new said_old said_new =
     ((path : List ℕ) × IsCutAt path product.files old new × AddsLine risen (write_fault_line path) said_old said_new)
     ⊎ ((new ≡ written product.files old) × BreaksOff risen product.text said_old said_new)
 
-abbrev pub IsCut : Option Command → Files → Type 0 → Files → Files → List ℕ → List ℕ → Type 0
-IsCut None files risen old new said_old said_new = ⊥
-IsCut (Some command) files risen old new said_old said_new =
-    (product : Product) × IsProductOf files command product × Fails product risen old new said_old said_new
+abbrev pub IsCut : Call → Files → Type 0 → Files → Files → List ℕ → List ℕ → Type 0
+IsCut (Err misuse) files risen old new said_old said_new = ⊥
+IsCut (Ok task) files risen old new said_old said_new =
+    (product : Product) × IsProductOf files task product × Fails product risen old new said_old said_new
 
 -- what the files draw that a command leaves
-abbrev pub Draws : Option Command → Files → Files → Type 0
-Draws None files new = ⊥
-Draws (Some command) files new = (work : Work) × IsWork files command (Ok work) × IsDrawn command work new
+abbrev pub Draws : Call → Files → Files → Type 0
+Draws (Err misuse) files new = ⊥
+Draws (Ok task) files new = (work : Work) × IsWork files task (Ok work) × IsDrawn task.command work new
 
 -- what the files have that a command leaves
-abbrev pub Leaves : Option Command → Files → Files → Type 0
-Leaves None files new = ⊥
-Leaves (Some command) files new = (work : Work) × IsWork files command (Ok work) × IsLeft command work new
+abbrev pub Leaves : Call → Files → Files → Type 0
+Leaves (Err misuse) files new = ⊥
+Leaves (Ok task) files new = (work : Work) × IsWork files task (Ok work) × IsLeft task.command work new
 
 -- what the file of a font that is built has of the font (and nothing of other commands)
-abbrev pub HasOfFont : (Font → List ℕ → Type 0) → Option Command → Files → Files → Type 0
-HasOfFont Has (Some (build command)) files new = (found : Font) × IsFontAt files command.design (Ok found) × Has found (content new command.out)
-HasOfFont Has _ files new = Unit {0}
+abbrev pub HasOfFontBy : (Font → List ℕ → Type 0) → Files → Files → List Image → Command → Type 0
+HasOfFontBy Has files new images (tuples command) = Unit {0}
+HasOfFontBy Has files new images (build command) = (found : Font) × IsFontAt files command.design images (Ok found) × Has found (content new command.out)
+
+abbrev pub HasOfFont : (Font → List ℕ → Type 0) → Call → Files → Files → Type 0
+HasOfFont Has (Err misuse) files new = Unit {0}
+HasOfFont Has (Ok task) files new = HasOfFontBy Has files new task.images task.command
 
 -- what a file holds exceeds the room of its path, or what was said with the text exceeds the room of saying
 abbrev pub Overflows : Product → (List ℕ → Option ℕ) → ℕ → List ℕ → Type 0
 Overflows product room say_room said = Overfills room product.files ⊎ (say_room < length said + length product.text)
 
-abbrev pub LacksRoom : Option Command → Files → (List ℕ → Option ℕ) → ℕ → List ℕ → Type 0
-LacksRoom None files room say_room said = ⊥
-LacksRoom (Some command) files room say_room said = (product : Product) × IsProductOf files command product × Overflows product room say_room said
+abbrev pub LacksRoom : Call → Files → (List ℕ → Option ℕ) → ℕ → List ℕ → Type 0
+LacksRoom (Err misuse) files room say_room said = ⊥
+LacksRoom (Ok task) files room say_room said = (product : Product) × IsProductOf files task product × Overflows product room say_room said
 
 -- Ok, want of memory, or a write fault with this cause
 abbrev pub EndsBy : Type 0 → Status → Type 0

@@ -6,6 +6,7 @@ use Rattle.basics.specs.declared.fault.Fault.{Fault}
 use Rattle.commands.specs.Command.{Command, tuples, build}
 use Rattle.font_model.specs.Fonts.{Font}
 use Rattle.font_project.specs.Fonts.{IsFontAt}
+use Rattle.vfb.specs.Calls.{Image, Task}
 use Rattle.vfb.specs.BuiltFont.{DrawsGlyphs, IsFontFileOf, MakesFont}
 use Rattle.vfb.specs.Glyph.{IsDataOf, IsDrawnBy}
 use Rattle.vfb.specs.Masters.{Masters, masters_of}
@@ -17,16 +18,19 @@ pub data Work : Type 0 where
   glyph : Masters → Work
   font : Font → Work
 
--- what a document and its sources give: a font, or their first fault
-abbrev pub IsFontWork : Files → List ℕ → Result Work Fault → Type 0
-IsFontWork files design (Ok (font found)) = IsFontAt files design (Ok found)
-IsFontWork files design (Ok (glyph masters)) = ⊥
-IsFontWork files design (Err fault) = IsFontAt files design (Err fault)
+-- what a document and its sources give under the images: a font, or their first fault
+abbrev pub IsFontWork : Files → List ℕ → List Image → Result Work Fault → Type 0
+IsFontWork files design images (Ok (font found)) = IsFontAt files design images (Ok found)
+IsFontWork files design images (Ok (glyph masters)) = ⊥
+IsFontWork files design images (Err fault) = IsFontAt files design images (Err fault)
 
 -- what the files of a command give: its work, or their first fault
-abbrev pub IsWork : Files → Command → Result Work Fault → Type 0
-IsWork files (tuples command) reading = reading ≡ (masters_of files command >>= λ masters. Ok (glyph masters))
-IsWork files (build command) reading = IsFontWork files command.design reading
+abbrev pub IsWorkOf : Files → List Image → Command → Result Work Fault → Type 0
+IsWorkOf files images (tuples command) reading = reading ≡ (masters_of files command >>= λ masters. Ok (glyph masters))
+IsWorkOf files images (build command) reading = IsFontWork files command.design images reading
+
+abbrev pub IsWork : Files → Task → Result Work Fault → Type 0
+IsWork files task reading = IsWorkOf files task.images task.command reading
 
 -- The path of a file that could not be read, where told says that the sources tell their files. Of `build` it can be that
 -- of any file.
@@ -41,9 +45,9 @@ IsMadeOf (tuples command) (glyph masters) product =
 IsMadeOf (build command) (font found) product = MakesFont found command.out product
 IsMadeOf _ _ product = ⊥
 
--- what the files of a command make: the product of its work
-abbrev pub IsProductOf : Files → Command → Product → Type 0
-IsProductOf files command product = (work : Work) × IsWork files command (Ok work) × IsMadeOf command work product
+-- what the files of a task make: the product of its work
+abbrev pub IsProductOf : Files → Task → Product → Type 0
+IsProductOf files task product = (work : Work) × IsWork files task (Ok work) × IsMadeOf task.command work product
 
 -- The headline: what the files have that a command leaves. Each command has a record of its own.
 abbrev pub IsLeft : Command → Work → Files → Type 0

@@ -3,10 +3,12 @@ ghost use Rattle.outside.specs.Said.{Says};
 ghost use Rattle.vfb.specs.Ending.{ending_of, status_of, ending_line};
 
 use crate::lines::{say_no_memory, say_read_fault, say_refused, say_usage, say_write_fault};
+use crate::misuse::Misuse;
 use crate::status::Status;
 use basics::{Fault, Name};
 use outside::{Failed, Say};
 use source_files::ReadStop;
+use std::alloc::AllocFailed;
 
 /// How a command ended, with what the line said of it names.
 #[derive(Drop)]
@@ -15,14 +17,24 @@ pub(crate) enum Ending<'a> {
     Done,
     /// The sources have this fault.
     Refused(Fault),
-    /// The words are those of no command.
-    Usage,
+    /// The words ask for nothing.
+    Usage(Misuse<'a>),
     /// The file at this path could not be read.
     ReadFault(Name),
     /// The file at this path could not be written; a dash stands for the text said.
     WriteFault(&'a str),
     /// Memory ran out.
     NoMemory,
+}
+
+impl<'a, T: Drop> From<AllocFailed<T>> for Ending<'a> {
+    ghost use Rattle.vfb.specs.declared.ending.Ending.TheVariants.{NoMemory};
+
+    ghost from_gives = { λ _ ending. ending ≡ NoMemory };
+
+    fn from(_: AllocFailed<T>) -> Ending<'a> {
+        Ending::NoMemory
+    }
 }
 
 impl<'a> Ending<'a> {
@@ -44,7 +56,7 @@ impl<'a> Ending<'a> {
         match self {
             Ending::Done => Status::Ok,
             Ending::Refused(fault) => Status::Refused(fault),
-            Ending::Usage => Status::Usage,
+            Ending::Usage(_) => Status::Usage,
             Ending::ReadFault(_) => Status::ReadFault,
             Ending::WriteFault(_) => Status::WriteFault,
             Ending::NoMemory => Status::NoMemory,
@@ -59,7 +71,7 @@ pub(crate) fn say_ending<T: Say>(say: &mut T, ending: &Ending<'_>) -> Result<(),
     match ending {
         Ending::Done => Ok(()),
         Ending::Refused(fault) => say_refused(say, fault),
-        Ending::Usage => say_usage(say),
+        Ending::Usage(misuse) => say_usage(say, *misuse),
         Ending::ReadFault(path) => say_read_fault(say, path.as_str()),
         Ending::WriteFault(path) => say_write_fault(say, path),
         Ending::NoMemory => say_no_memory(say),

@@ -1,4 +1,4 @@
-ghost use Rattle.std.specs.Prelude.{◌≡◌, length, All, IfOk, string_bytes};
+ghost use Rattle.std.specs.Prelude.{◌≡◌, length, map, All, IfOk, string_bytes};
 ghost use Rattle.commands.specs.Command.{build};
 ghost use Rattle.commands.specs.Words.{asked_build};
 ghost use Rattle.font_build.specs.declared.built.Built.{Built};
@@ -14,6 +14,7 @@ ghost use Rattle.vfb.specs.Work.{IsReadBy};
 use crate::product::{File, Product};
 use basics::NoMemory;
 use commands::Build;
+use filters::GlyphFilter;
 use font_build::{Built, build};
 use font_model::Project;
 use font_project::project;
@@ -69,14 +70,15 @@ fn font_of<'a>(alloc: Global, out: &'a str, project: &Project) -> Result<Product
     Ok(Product { files, text })
 }
 
-/// Makes the font of a designspace document and its sources.
+/// Makes the font of a designspace document and its sources, through the filters in order.
 pub(crate) fn make_font<'a, S: Sources>(
     alloc: Global,
     command: &Build<'a>,
+    filters: &mut Vec<Box<dyn GlyphFilter>>,
     sources: &mut S,
 ) -> Result<Product<'a>, ReadStop>
-    ensures { Reads (S.state sources.old) (S.state sources.new) (IsReadBy (S.state sources.old).tells (S.state sources.old).files (build (asked_build command.now))) (Makes (S.state sources.old).files (build (asked_build command.now)) result) result }
+    ensures { Reads (S.state sources.old) (S.state sources.new) (IsReadBy (S.state sources.old).tells (S.state sources.old).files (build (asked_build command.now))) (Makes (S.state sources.old).files (record { command = build (asked_build command.now); images = map (λ filter. image filter (setting filter)) filters.old.items }) result) result }
 {
-    let project = project(alloc, sources, command.design)?;
+    let project = project(alloc, sources, command.design, filters)?;
     Ok(font_of(alloc, command.out, &project)?)
 }

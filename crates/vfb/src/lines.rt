@@ -1,7 +1,9 @@
 ghost use Rattle.std.specs.Prelude.{◌≡◌};
 ghost use Rattle.outside.specs.Said.{Says};
+ghost use Rattle.vfb.specs.Ending.{shown_misuse};
 ghost use Rattle.vfb.specs.Lines.{or_dash, refused_line, usage_line, read_fault_line, write_fault_line, no_memory_line};
 
+use crate::misuse::Misuse;
 use basics::Fault;
 use outside::{Failed, Piece, Say, say_all};
 
@@ -38,11 +40,21 @@ pub(crate) fn say_refused<T: Say>(say: &mut T, fault: &Fault) -> Result<(), Fail
     )
 }
 
-/// Says that the words are those of no command.
-pub(crate) fn say_usage<T: Say>(say: &mut T) -> Result<(), Failed>
-    ensures { Says (T.state say.old) (T.state say.new) usage_line result }
+/// Says what is wrong with the words.
+pub(crate) fn say_usage<T: Say>(say: &mut T, misuse: Misuse<'_>) -> Result<(), Failed>
+    ensures { Says (T.state say.old) (T.state say.new) (usage_line (shown_misuse misuse)) result }
 {
-    say_all(say, &[Piece::Word("usage words\n")])
+    match misuse {
+        Misuse::Words => say_all(say, &[Piece::Word("usage words\n")]),
+        Misuse::Filter(name) => say_all(
+            say,
+            &[
+                Piece::Word("usage filter "),
+                Piece::Text(name),
+                Piece::Word("\n"),
+            ],
+        ),
+    }
 }
 
 /// Says which file could not be read.

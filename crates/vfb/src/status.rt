@@ -10,7 +10,7 @@ pub enum Status {
     Ok,
     /// The sources have this fault.
     Refused(Fault),
-    /// The words are those of no command.
+    /// The words are those of no command, or a filter that they name can't be had.
     Usage,
     /// A file could not be read.
     ReadFault,
