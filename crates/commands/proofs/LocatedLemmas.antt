@@ -9,9 +9,9 @@ use Rattle.std.proofs.lemmas.List.Splits.{length-slice_split}
 use Rattle.fixpoint.specs.DecimalText.{whole_of}
 use Rattle.fixpoint.specs.declared.decimal.NumberFault.{NumberFault}
 use Rattle.region_support.specs.Regions.{IsNormalised, AreNormalisedLocations}
-use Rattle.commands.specs.Command.{coordinate_by, coordinate_of, location_of, located_of, are_on_axes, drawings_named, Command, Located, tuples}
+use Rattle.commands.specs.Command.{coordinate_by, coordinate_of, location_of, located_of, are_on_axes, drawings_named, Command, FilterWord, Located, tuples}
 use Rattle.clap.specs.Walk.{Row, Text, all_of, first_of}
-use Rattle.commands.specs.Syntax.{build_by, build_in, command_in, tuples_by, tuples_in}
+use Rattle.commands.specs.Syntax.{build_by, build_in, command_in, filters_in, tuples_by, tuples_in}
 use Rattle.commands.specs.Proper.{locations_of_drawings, AreLocated, IsProper}
 use Rattle.basics.specs.Optional.{◌>>=◌, each}
 
@@ -142,10 +142,10 @@ tuples_are : (out : Option (List ℕ)) (words : Option (List (List ℕ))) → If
 tuples_are None words = tt
 tuples_are (Some out) words = with_words out words
 
-build_is : (design out : Option (List ℕ)) → IfSome (build_by design out) IsProper
-build_is None out = tt
-build_is (Some design) None = tt
-build_is (Some design) (Some out) = tt
+build_is : (design out : Option (List ℕ)) (filters : List FilterWord) → IfSome (build_by design out filters) IsProper
+build_is None out filters = tt
+build_is (Some design) None filters = tt
+build_is (Some design) (Some out) filters = tt
 
 if_proper : (test : Bool) (first second : Option Command) → IfSome first IsProper → IfSome second IsProper → IfSome (if test then first else second) IsProper
 if_proper true first second is other = is
@@ -156,4 +156,4 @@ pub command_is : (found : Option (Text × List Row)) → IfSome (command_in foun
 command_is None = tt
 command_is (Some (name, rows)) =
     if_proper (bytes_eq name (codes "tuples")) (tuples_in rows) (build_in rows) (tuples_are (first_of (codes "out") rows) (all_of (codes "drawings") rows))
-    (build_is (first_of (codes "design") rows) (first_of (codes "out") rows))
+    (build_is (first_of (codes "design") rows) (first_of (codes "out") rows) (filters_in rows))

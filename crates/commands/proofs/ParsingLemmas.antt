@@ -1,20 +1,20 @@
 -- What `clap` answers of words, and which command it is.
-use Rattle.std.proofs.Common.{◌≡◌, inl, inr, true, List, [], ◌∷◌, codes, option_map, Option, Some, None, refl, sym, ◌∙◌, ap, ap₂, subst}
+use Rattle.std.proofs.Common.{◌≡◌, inl, inr, true, false, List, [], ◌∷◌, codes, option_map, Option, Some, None, refl, sym, ◌∙◌, ap, ap₂, subst}
 use Rattle.basics.specs.Optional.{◌>>=◌}
 use Rattle.clap.specs.Faults.{fault_of, is_simple_and_free}
 use Rattle.clap.specs.Kinds.{HasKind, Kinds}
 use Rattle.clap.specs.Matches.{first_value, matched_of, raw_values}
 use Rattle.clap.specs.Simple.{App, is_simple, subcommand_of, subcommand_rows_of}
 use Rattle.clap.specs.Values.{kind_of}
-use Rattle.clap.specs.Walk.{Row, Text, rows_of}
+use Rattle.clap.specs.Walk.{Row, Text, first_of, rows_of}
 use Rattle.clap.specs.declared.Error.{Error}
 use Rattle.clap.specs.declared.error.ErrorKind.TheVariants as kind
 use Rattle.clap.specs.declared.parser.ArgMatches.{ArgMatches}
 use Rattle.clap.specs.declared.parser.matches.Found.{Found}
 use Rattle.clap.proofs.OnLiterals.{clap_on_literals}
 use Rattle.clap.proofs.WalkLemmas.{first_value-rows, raw_values-rows}
-use Rattle.commands.specs.Command.{Located, tuples, drawings_named}
-use Rattle.commands.specs.Syntax.{build_by, build_in, command_if, command_in, command_of, entered, refusals, tuples_by, tuples_in, vfb_app}
+use Rattle.commands.specs.Command.{FilterWord, Located, tuples, drawings_named}
+use Rattle.commands.specs.Syntax.{build_by, build_in, command_if, command_in, command_of, entered, filters_in, filters_of, lacks_option_value, refusals, tuples_by, tuples_in, vfb_app}
 use Rattle.commands.specs.Taken.{AreTaken}
 
 -- ---- the program
@@ -52,10 +52,14 @@ refuses app words error is has other none =
 
 -- ---- the commands
 
-pub build_found : (found : Found) (design out : Option Text) → design ≡ first_value found (codes "design") → out ≡ first_value found (codes "out")
-    → build_by design out ≡ build_in (rows_of found)
-build_found found design out is_design is_out =
-    ap₂ build_by (is_design ∙ first_value-rows found (codes "design")) (is_out ∙ first_value-rows found (codes "out"))
+pub filters_found : (found : Found) (words : Option (List Text)) → words ≡ option_map raw_values (matched_of found (codes "filter")) → filters_of words ≡ filters_in (rows_of found)
+filters_found found words are = ap filters_of (are ∙ raw_values-rows found (codes "filter"))
+
+pub build_found : (found : Found) (design out : Option Text) (filters : List FilterWord) → design ≡ first_value found (codes "design") → out ≡ first_value found (codes "out")
+    → filters ≡ filters_in (rows_of found) → build_by design out filters ≡ build_in (rows_of found)
+build_found found design out filters is_design is_out are =
+    ap₂ (λ (design out : Option Text). build_by design out filters) (is_design ∙ first_value-rows found (codes "design")) (is_out ∙ first_value-rows found (codes "out"))
+    ∙ ap (build_by (first_of (codes "design") (rows_of found)) (first_of (codes "out") (rows_of found))) are
 
 pub tuples_found : (found : Found) (out : Option Text) (words : Option (List Text)) → out ≡ first_value found (codes "out")
     → words ≡ option_map raw_values (matched_of found (codes "drawings")) → tuples_by out words ≡ tuples_in (rows_of found)
@@ -68,14 +72,19 @@ drawings_found out words drawings are = ap (λ (drawings : Option (List Located)
 
 -- ---- the whole
 
-pub some_command : (words : List Text) (matches : ArgMatches) → AreTaken (refusals words) (entered words) (Some matches) → command_in (subcommand_rows_of matches) ≡ command_of words
+pub some_command : (words : List Text) (matches : ArgMatches) → lacks_option_value words ≡ false → AreTaken (refusals words) (entered words) (Some matches)
+    → command_in (subcommand_rows_of matches) ≡ command_of words
 unfolding command_of
-some_command words matches (none, is) = ap command_in is ∙ ap (λ kinds. command_if kinds (entered words)) (sym none)
+some_command words matches has (none, is) = rw has (ap command_in is ∙ ap (λ kinds. command_if kinds (entered words)) (sym none))
 
 none_if : (kinds : Kinds) (found : Option (Text × List Row)) → (kinds ≡ [] → ⊥) → None ≡ command_if kinds found
 none_if [] found some = absurd (some refl)
 none_if (kind ∷ kinds) found some = refl
 
-pub no_command : (words : List Text) → AreTaken (refusals words) (entered words) None → None ≡ command_of words
+pub no_command : (words : List Text) → lacks_option_value words ≡ false → AreTaken (refusals words) (entered words) None → None ≡ command_of words
 unfolding command_of
-no_command words some = none_if (refusals words) (entered words) some
+no_command words has some = rw has (none_if (refusals words) (entered words) some)
+
+pub lacks_command : (words : List Text) → lacks_option_value words ≡ true → None ≡ command_of words
+unfolding command_of
+lacks_command words lacks = rw lacks refl

@@ -1,5 +1,6 @@
--- What a command asks for, and what the words of drawings mean. 64 is the sign @, and 44 the comma.
-use Rattle.std.specs.Prelude.{ℕ, ℤ, pos, negsuc, int_le, Bool, false, ◌&&◌, List, [], ◌∷◌, length, ◌==◌, nat_eq, nat_le, Option, Some, None, Result, Ok, Err, if◌then◌else◌}
+-- What a command asks for, and what the words of drawings and filters mean. 64 is the sign @, 44 the comma, and 58 the
+-- colon.
+use Rattle.std.specs.Prelude.{ℕ, ℤ, pos, negsuc, int_le, Bool, false, ◌&&◌, ◌+◌, List, [], ◌∷◌, length, take, drop, position, ◌==◌, nat_eq, nat_le, Option, Some, None, Result, Ok, Err, if◌then◌else◌}
 use Rattle.std.specs.List.{list_all, slice_split}
 use Rattle.std.specs.Path.{rsplit_once}
 use Rattle.fixpoint.specs.DecimalText.{whole_of}
@@ -16,15 +17,29 @@ pub record Tuples : Type 0 where
   pub out : List ℕ
   pub drawings : List Located
 
--- the designspace document, and the file to write
+-- a filter that is asked for, and the text that configures it
+pub record FilterWord : Type 0 where
+  pub name : List ℕ
+  pub text : List ℕ
+
+-- the designspace document, the file to write, and the filters in the order of their words
 pub record Build : Type 0 where
   pub design : List ℕ
   pub out : List ℕ
+  pub filters : List FilterWord
 
 -- what words ask for: one case a command
 pub data Command : Type 0 where
   tuples : Tuples → Command
   build : Build → Command
+
+-- a filter's name, and after the word's first colon the text, which is empty where there is no colon
+abbrev pub filter_by : List ℕ → Option ℕ → FilterWord
+filter_by word None = record { name = word; text = [] }
+filter_by word (Some colon) = record { name = take colon word; text = drop (colon + 1) word }
+
+abbrev pub filter_of : List ℕ → FilterWord
+filter_of word = filter_by word (position (λ b. b == 58) word)
 
 -- a number from -16384 to 16384
 abbrev pub coordinate_by : Result ℤ NumberFault → Option ℤ

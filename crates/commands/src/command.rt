@@ -1,3 +1,4 @@
+use crate::filtered::FilterWord;
 use crate::located::Located;
 use arrayvec::ArrayVec;
 
@@ -17,6 +18,8 @@ pub struct Build<'a> {
     pub design: &'a str,
     /// The file to write.
     pub out: &'a str,
+    /// The filters through which the outlines go, in the order of their words.
+    pub filters: Vec<FilterWord<'a>>,
 }
 
 /// What the words of a call ask for.

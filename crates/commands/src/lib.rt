@@ -2,13 +2,15 @@
 //!
 //! ```text
 //! tuples OUT DRAWING...
-//! build DESIGNSPACE OUT
+//! build DESIGNSPACE OUT [--filter F]...
 //! ```
 //!
-//! `clap` reads the words. A DRAWING is a path, `@`, and 1 to 8 coordinates with commas between.
+//! `clap` reads the words. A DRAWING is a path, `@`, and 1 to 8 coordinates with commas between. An F is the name of a
+//! filter, and where a colon follows, the text that configures it.
 #![tactic(auto)]
 
 mod command;
+mod filtered;
 mod located;
 mod parsing;
 mod subcommands;
@@ -16,5 +18,6 @@ mod subcommands;
 mod tests;
 
 pub use command::{Build, Command, Tuples};
+pub use filtered::FilterWord;
 pub use located::Located;
 pub use parsing::parse;

@@ -1,7 +1,7 @@
 ghost use Rattle.std.specs.Prelude.{◌≡◌, IfOk, false};
 ghost use Rattle.clap.specs.Words.{app_of};
 ghost use Rattle.clap.specs.declared.builder.Command.TheViews.{out-Command};
-ghost use Rattle.commands.specs.Syntax.{bare_app, build_app, tuples_app, vfb_app};
+ghost use Rattle.commands.specs.Syntax.{bare_app, build_app, build_files_app, tuples_app, vfb_app};
 
 use clap::{Arg, ArgAction, Command};
 use std::alloc::{AllocError, Global};
@@ -22,8 +22,8 @@ fn tuples_command<'a>(alloc: Global) -> Result<Command<'a>, AllocError>
 }
 
 /// `build DESIGNSPACE OUT`
-fn build_command<'a>(alloc: Global) -> Result<Command<'a>, AllocError>
-    ensures app { IfOk result (λ command. app_of command ≡ build_app) }
+fn build_files_command<'a>(alloc: Global) -> Result<Command<'a>, AllocError>
+    ensures app { IfOk result (λ command. app_of command ≡ build_files_app) }
     ensures local { IfOk result (λ command. (out-Command command).has_globals ≡ false) }
 {
     let design = Arg::new(alloc, "design").required(true);
@@ -32,6 +32,17 @@ fn build_command<'a>(alloc: Global) -> Result<Command<'a>, AllocError>
         .disable_help_flag(true)
         .arg(design)?
         .arg(out)
+}
+
+/// `build DESIGNSPACE OUT [--filter F]...`
+fn build_command<'a>(alloc: Global) -> Result<Command<'a>, AllocError>
+    ensures app { IfOk result (λ command. app_of command ≡ build_app) }
+    ensures local { IfOk result (λ command. (out-Command command).has_globals ≡ false) }
+{
+    let filter = Arg::new(alloc, "filter")
+        .long("filter")
+        .action(ArgAction::Append);
+    build_files_command(alloc)?.arg(filter)
 }
 
 /// The program without its subcommands.

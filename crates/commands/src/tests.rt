@@ -5,7 +5,7 @@ use std::alloc::Global;
 use std::test::Fail;
 
 /// Words that are those of no command.
-const REFUSED: [&[&str]; 24] = [
+const REFUSED: [&[&str]; 33] = [
     &[],
     &["vfb"],
     &["vfb", ""],
@@ -30,6 +30,15 @@ const REFUSED: [&[&str]; 24] = [
     &["vfb", "tuples", "-o", "a@0"],
     &["vfb", "tuples", "o", "a@0", "-b@0"],
     &["vfb", "tuples", "o", "--"],
+    &["vfb", "build", "a", "b", "--filter"],
+    &["vfb", "build", "a", "b", "--filter="],
+    &["vfb", "build", "--filter=", "a", "b"],
+    &["vfb", "build", "a", "b", "--filter", "--"],
+    &["vfb", "build", "a", "b", "--filter", "-x"],
+    &["vfb", "build", "a", "b", "--filte", "x"],
+    &["vfb", "build", "a", "--filter", "b"],
+    &["vfb", "--filter", "x", "build", "a", "b"],
+    &["vfb", "tuples", "o", "a@0", "--filter", "x"],
 ];
 
 /// Words of `build`, and what they name.
@@ -42,6 +51,45 @@ const TAKEN: [(&[&str], &str, &str); 8] = [
     (&["vfb", "build", "a", "--", "--"], "a", "--"),
     (&["vfb", "build", "a", "b", "--"], "a", "b"),
     (&["vfb", "build", "tuples", "help"], "tuples", "help"),
+];
+
+/// Words of `build` with options, and the names and texts of the filters that they ask for.
+const FILTERED: [(&[&str], &[(&str, &str)]); 14] = [
+    (&["vfb", "build", "a", "b"], &[]),
+    (
+        &["vfb", "build", "a", "b", "--filter", "shift:10:0"],
+        &[("shift", "10:0")],
+    ),
+    (
+        &["vfb", "build", "--filter", "shift:10:0", "a", "b"],
+        &[("shift", "10:0")],
+    ),
+    (
+        &["vfb", "build", "a", "--filter=shift:10:0", "b"],
+        &[("shift", "10:0")],
+    ),
+    (
+        &["vfb", "build", "--filter=x", "a", "--filter", "y", "b"],
+        &[("x", ""), ("y", "")],
+    ),
+    (
+        &["vfb", "build", "a", "b", "--filter=y", "--filter=x"],
+        &[("y", ""), ("x", "")],
+    ),
+    (
+        &["vfb", "build", "a", "b", "--filter=x", "--filter=x:1"],
+        &[("x", ""), ("x", "1")],
+    ),
+    (&["vfb", "build", "a", "b", "--filter", ""], &[("", "")]),
+    (&["vfb", "build", "a", "b", "--filter", ":"], &[("", "")]),
+    (&["vfb", "build", "a", "b", "--filter=:x"], &[("", "x")]),
+    (&["vfb", "build", "a", "b", "--filter==:="], &[("=", "=")]),
+    (&["vfb", "build", "a", "b", "--filter", "-"], &[("-", "")]),
+    (&["vfb", "build", "a", "--", "--filter="], &[]),
+    (
+        &["--filter=", "build", "a", "b", "--filter=x::"],
+        &[("x", ":")],
+    ),
 ];
 
 /// Words of their own.
@@ -66,6 +114,19 @@ fn reads_words(rt: HostRuntime) -> Result<(), Fail> {
             Some(Command::Build(command)) => {
                 assert_eq!(rt; command.design, design, "{words:?}");
                 assert_eq!(rt; command.out, out, "{words:?}");
+            }
+            _ => assert!(rt; false, "{words:?}"),
+        }
+    }
+    for (words, filters) in FILTERED {
+        let words = owned(alloc, words)?;
+        match parse(alloc, &words)? {
+            Some(Command::Build(command)) => {
+                assert_eq!(rt; command.filters.len(), filters.len(), "{words:?}");
+                for (found, (name, text)) in command.filters.iter().zip(filters) {
+                    assert_eq!(rt; found.name, *name, "{words:?}");
+                    assert_eq!(rt; found.text, *text, "{words:?}");
+                }
             }
             _ => assert!(rt; false, "{words:?}"),
         }
