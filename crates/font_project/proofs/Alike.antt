@@ -26,7 +26,7 @@ alike_within names sources default outlined within =
     let at : (number : ℕ) → number < length outlined → IsOutlinedWithin (length names) (get_or outlined number no_outlines) = λ number below. within.each number no_outlines below in
     let own = at default there in
     let alike : (number glyph : ℕ) → number < length outlined → glyph < length names
-        → contour_kinds (get_or (get_or outlined number no_outlines).outlines glyph nothing) ≡ contour_kinds (get_or (get_or outlined default no_outlines).outlines glyph nothing) = λ number glyph below inside.
+    → contour_kinds (get_or (get_or outlined number no_outlines).outlines glyph nothing) ≡ contour_kinds (get_or (get_or outlined default no_outlines).outlines glyph nothing) = λ number glyph below inside.
     kinds_same names (default_outlined outlined default) outlined within.shapes number (get_or outlined number no_outlines) (item_at outlined number no_outlines below) glyph inside
     (omega (arith, inside, own.one_each)) (omega (arith, inside, (at number below).one_each)) in
     let sized : (number : ℕ) → number < length outlined → sum_by outline_size (get_or outlined number no_outlines).outlines ≡ sum_by outline_size (get_or outlined default no_outlines).outlines = λ number below.
@@ -64,7 +64,7 @@ images_alike follows glyphs sources default outlined made within zip =
     zip_length (IsImageOf follows) (get_or outlined number no_outlines).outlines (get_or made number no_outlines).outlines (at number below).outlines
     ∙ (within.each number no_outlines (omega (arith, below, within.one_each))).one_each in
     let image : (number glyph : ℕ) → number < sources → glyph < glyphs
-        → IsImageOf follows (get_or (get_or outlined number no_outlines).outlines glyph nothing) (get_or (get_or made number no_outlines).outlines glyph nothing) = λ number glyph below inside.
+    → IsImageOf follows (get_or (get_or outlined number no_outlines).outlines glyph nothing) (get_or (get_or made number no_outlines).outlines glyph nothing) = λ number glyph below inside.
     zip_at (IsImageOf follows) (get_or outlined number no_outlines).outlines (get_or made number no_outlines).outlines (at number below).outlines glyph nothing nothing (omega (arith, inside, sized number below)) in
     record {
       one_each = count ∙ within.one_each;

@@ -45,7 +45,7 @@ names_back : (names : List (List ℕ)) (number : ℕ) → names_of (numbered num
 names_back [] number = refl
 names_back (name ∷ names) number = ap (λ (rest : List (List ℕ)). name ∷ rest) (names_back names (number + 1))
 
-numbered_length : (names : List (List ℕ)) (number : ℕ) → length (numbered number names) ≡ length names
+pub numbered_length : (names : List (List ℕ)) (number : ℕ) → length (numbered number names) ≡ length names
 numbered_length [] number = refl
 numbered_length (name ∷ names) number = ap suc (numbered_length names (number + 1))
 

@@ -172,6 +172,23 @@ fn project_of(
     made(alloc, path, filters, frame, drawn)
 }
 
+/// The same, of filters in a vector.
+fn project_through(
+    alloc: Global,
+    path: &str,
+    filters: &mut Vec<Box<dyn GlyphFilter>>,
+    found: FontSources,
+) -> Result<Project, ReadStop>
+    requires { AreWithin found }
+    ensures makes { MakesProject (IsFontOf path.now (map (λ filter. image filter (setting filter)) filters.old.items) (Ok found)) result }
+    ensures never { NeverFails result }
+    ensures fit { IfOk result IsFit }
+    ensures same { map (seen called setting setting_of image kinds) filters.new.items ≡ map (seen called setting setting_of image kinds) filters.old.items }
+    ensures touched { IfOk result (λ project. map touches filters.new.items ≡ map (raised (length project.design.sources * length project.names.entries)) (map touches filters.old.items)) }
+{
+    project_of(alloc, path, filters.as_mut_slice(), found)
+}
+
 /// Reads the sources that the designspace document of this path names, and makes the project of their font, whose outlines
 /// go through the filters in their order: each is configured already.
 ///
@@ -194,5 +211,5 @@ pub fn project<S: Sources>(
     ensures touched { IfOk result (λ project. map touches filters.new.items ≡ map (raised (length project.design.sources * length project.names.entries)) (map touches filters.old.items)) }
 {
     let found = read(alloc, sources, path)?;
-    project_of(alloc, path, filters.as_mut_slice(), found)
+    project_through(alloc, path, filters, found)
 }

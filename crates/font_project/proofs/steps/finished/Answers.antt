@@ -7,6 +7,7 @@ use Rattle.glif.specs.declared.shape.Outline.{Outline}
 use Rattle.designspace.specs.declared.source.Source.{Source}
 use Rattle.delta_solve.specs.GlyphModels.{IsModelOf}
 use Rattle.font_sources.specs.Document.{locations_of}
+use Rattle.font_model.specs.Fonts.{numbered}
 use Rattle.font_project.specs.Columns.{columns, rows_in}
 use Rattle.font_project.specs.Deltas.{all_fit}
 use Rattle.font_project.specs.Fonts.{default_number, font_of, master_locations, master_regions}
@@ -15,7 +16,7 @@ use Rattle.font_project.specs.Making.{StopsWith}
 use Rattle.font_project.specs.Masters.{AreFitRows, locations, regions}
 use Rattle.font_project.specs.declared.outlined.OutlinedSource.{OutlinedSource}
 use Rattle.font_project.proofs.FontSteps.{fit_seen, fit_stops, font_fits, font_with, is_project, stops_right}
-use Rattle.font_project.proofs.ProjectFit.{columns_within, is_fit}
+use Rattle.font_project.proofs.ProjectFit.{columns_within, is_fit, numbered_length}
 use Rattle.font_project.proofs.Rows.{fit_rows, numbers_apart, numbers_below}
 use Rattle.font_project.proofs.steps.finished.Goals as goal
 
@@ -80,3 +81,8 @@ returns-clause-fit c =
     subst (λ (list : List (List Outline)). AllZip (IsModelOf (regions c.in_ok-masters.masters) (locations c.in_ok-masters.masters)) (columns list (length c.args.found.names)) c.in_ok-models.models) rows named in
     is_fit c.args.found c.in_ok-ruled.ruled c.args.codes c.args.outlined c.in_ok-masters.masters c.in_ok-models.models c.joined.result c.requires.frame c.requires.codes c.requires.outlined c.joined.ensures c.in_ok-ruled.ensures.right
     c.in_ok-masters.ensures.ready c.in_ok-masters.ensures.same c.in_ok-masters.ensures.one_each are c.in_ok-models.ensures.within
+
+pub returns-clause-names : goal.returns-clause-names
+returns-clause-names c =
+    let entries : c.joined.result.names.entries ≡ numbered 0 c.args.found.names = ap (λ (names : _). names.entries) c.joined.ensures.names ∙ c.in_ok-ruled.ensures.right.names in
+    ap length entries ∙ numbered_length c.args.found.names 0
