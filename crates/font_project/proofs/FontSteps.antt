@@ -18,7 +18,8 @@ use Rattle.font_model.specs.Fonts.{Font, IsProjectOf, numbered}
 use Rattle.font_model.specs.declared.parts.Project.{Project}
 use Rattle.font_project.specs.Columns.{columns, rows_in}
 use Rattle.font_project.specs.Deltas.{all_fit}
-use Rattle.font_project.specs.Fonts.{AreOutlined, IsFontOf, IsFontOfDrawn, default_codes, default_number, drawn_of, font_of, master_locations, master_regions}
+use Rattle.font_project.specs.Fonts.{AreOutlined, IsFontOf, IsFontOfDrawn, default_codes, default_number, drawn_of, font_filtered, font_of, master_locations, master_regions}
+use Rattle.font_project.specs.Filtering.{Image, filtered}
 use Rattle.font_project.specs.Making.{IsJoinedOf, MakesProject, StopsWith}
 use Rattle.font_project.specs.Masters.{AreReady, locations, regions}
 use Rattle.font_project.specs.Presence.{are_there, drawn_sources}
@@ -81,48 +82,48 @@ is_project found ruled codes outlined masters models project joined right ready 
 }
 
 -- what is made of outlines that are right is made of what was drawn
-pub made_of_drawn : (path : List ℕ) (found : FontSources) (drawn : List DrawnSource) (outlined : List OutlinedSource) (result : Result Project ReadStop) → AreOutlined found.names (default_number found) drawn (Ok outlined)
-    → MakesProject (λ answer. answer ≡ font_of path found (default_codes found drawn) outlined) result → MakesProject (IsFontOfDrawn path found (Ok drawn)) result
-made_of_drawn path found drawn outlined (Ok project) are (font, is, makes, within) = (font, (Ok outlined, are, is), makes, within)
-made_of_drawn path found drawn outlined (Err (Refused fault)) are is = (Ok outlined, are, is)
-made_of_drawn path found drawn outlined (Err (ReadFault place)) are is = tt
-made_of_drawn path found drawn outlined (Err NoMemory) are is = tt
+pub made_of_drawn : (path : List ℕ) (images : List Image) (found : FontSources) (drawn : List DrawnSource) (outlined : List OutlinedSource) (result : Result Project ReadStop) → AreOutlined found.names (default_number found) drawn (Ok outlined)
+    → MakesProject (λ answer. answer ≡ font_filtered path images found (default_codes found drawn) outlined) result → MakesProject (IsFontOfDrawn path images found (Ok drawn)) result
+made_of_drawn path images found drawn outlined (Ok project) are (font, is, makes, within) = (font, (Ok outlined, are, is), makes, within)
+made_of_drawn path images found drawn outlined (Err (Refused fault)) are is = (Ok outlined, are, is)
+made_of_drawn path images found drawn outlined (Err (ReadFault place)) are is = tt
+made_of_drawn path images found drawn outlined (Err NoMemory) are is = tt
 
 -- and a fault of the outlines is one of the font
-pub outlines_stop : (path : List ℕ) (found : FontSources) (drawn : List DrawnSource) (stop : ReadStop) → StopsWith (AreOutlined found.names (default_number found) drawn) stop → StopsWith (IsFontOfDrawn path found (Ok drawn)) stop
-outlines_stop path found drawn (Refused fault) stops = (Err fault, stops, refl)
-outlines_stop path found drawn (ReadFault place) stops = tt
-outlines_stop path found drawn NoMemory stops = tt
+pub outlines_stop : (path : List ℕ) (images : List Image) (found : FontSources) (drawn : List DrawnSource) (stop : ReadStop) → StopsWith (AreOutlined found.names (default_number found) drawn) stop → StopsWith (IsFontOfDrawn path images found (Ok drawn)) stop
+outlines_stop path images found drawn (Refused fault) stops = (Err fault, stops, refl)
+outlines_stop path images found drawn (ReadFault place) stops = tt
+outlines_stop path images found drawn NoMemory stops = tt
 
 -- a fault of what is drawn is one of the font
-drawn_stops : (path : List ℕ) (found : FontSources) (reading : Result (List DrawnSource) Fault) (stop : ReadStop) → StopsBy stop reading → StopsWith (IsFontOfDrawn path found reading) stop
-drawn_stops path found reading (Refused fault) stops = subst (λ (r : Result (List DrawnSource) Fault). IsFontOfDrawn path found r (Err fault)) (sym stops) refl
-drawn_stops path found reading (ReadFault place) stops = tt
-drawn_stops path found reading NoMemory stops = tt
+drawn_stops : (path : List ℕ) (images : List Image) (found : FontSources) (reading : Result (List DrawnSource) Fault) (stop : ReadStop) → StopsBy stop reading → StopsWith (IsFontOfDrawn path images found reading) stop
+drawn_stops path images found reading (Refused fault) stops = subst (λ (r : Result (List DrawnSource) Fault). IsFontOfDrawn path images found r (Err fault)) (sym stops) refl
+drawn_stops path images found reading (ReadFault place) stops = tt
+drawn_stops path images found reading NoMemory stops = tt
 
-pub units_stop : (path : List ℕ) (found : FontSources) (stop : ReadStop) → StopsBy stop (have_units found.info.units found.sources) → StopsWith (IsFontOf path (Ok found)) stop
+pub units_stop : (path : List ℕ) (images : List Image) (found : FontSources) (stop : ReadStop) → StopsBy stop (have_units found.info.units found.sources) → StopsWith (IsFontOf path images (Ok found)) stop
 unfolding drawn_of
-units_stop path found (Refused fault) stops =
-    drawn_stops path found (drawn_of found) (Refused fault) (ap (λ (r : Result (Unit {0}) Fault). r >>= λ _. are_there found.sources found.names >>= λ _. Ok (drawn_sources found.sources)) stops)
-units_stop path found (ReadFault place) stops = tt
-units_stop path found NoMemory stops = tt
+units_stop path images found (Refused fault) stops =
+    drawn_stops path images found (drawn_of found) (Refused fault) (ap (λ (r : Result (Unit {0}) Fault). r >>= λ _. are_there found.sources found.names >>= λ _. Ok (drawn_sources found.sources)) stops)
+units_stop path images found (ReadFault place) stops = tt
+units_stop path images found NoMemory stops = tt
 
 drawn_after : (found : FontSources) → have_units found.info.units found.sources ≡ Ok tt → drawn_of found ≡ (are_there found.sources found.names >>= λ _. Ok (drawn_sources found.sources))
 unfolding drawn_of
 drawn_after found units = ap (λ (r : Result (Unit {0}) Fault). r >>= λ _. are_there found.sources found.names >>= λ _. Ok (drawn_sources found.sources)) units
 
-pub there_stop : (path : List ℕ) (found : FontSources) (stop : ReadStop) → have_units found.info.units found.sources ≡ Ok tt → StopsBy stop (are_there found.sources found.names) → StopsWith (IsFontOf path (Ok found)) stop
-there_stop path found (Refused fault) units stops =
-    drawn_stops path found (drawn_of found) (Refused fault) (drawn_after found units ∙ ap (λ (r : Result (Unit {0}) Fault). r >>= λ _. Ok (drawn_sources found.sources)) stops)
-there_stop path found (ReadFault place) units stops = tt
-there_stop path found NoMemory units stops = tt
+pub there_stop : (path : List ℕ) (images : List Image) (found : FontSources) (stop : ReadStop) → have_units found.info.units found.sources ≡ Ok tt → StopsBy stop (are_there found.sources found.names) → StopsWith (IsFontOf path images (Ok found)) stop
+there_stop path images found (Refused fault) units stops =
+    drawn_stops path images found (drawn_of found) (Refused fault) (drawn_after found units ∙ ap (λ (r : Result (Unit {0}) Fault). r >>= λ _. Ok (drawn_sources found.sources)) stops)
+there_stop path images found (ReadFault place) units stops = tt
+there_stop path images found NoMemory units stops = tt
 
 -- what is made of what is drawn is made of all that was read
-pub made_of_all : (path : List ℕ) (found : FontSources) (result : Result Project ReadStop) → have_units found.info.units found.sources ≡ Ok tt → are_there found.sources found.names ≡ Ok tt
-    → MakesProject (IsFontOfDrawn path found (Ok (drawn_sources found.sources))) result → MakesProject (IsFontOf path (Ok found)) result
-made_of_all path found result units there makes =
+pub made_of_all : (path : List ℕ) (images : List Image) (found : FontSources) (result : Result Project ReadStop) → have_units found.info.units found.sources ≡ Ok tt → are_there found.sources found.names ≡ Ok tt
+    → MakesProject (IsFontOfDrawn path images found (Ok (drawn_sources found.sources))) result → MakesProject (IsFontOf path images (Ok found)) result
+made_of_all path images found result units there makes =
     let drawn : drawn_of found ≡ Ok (drawn_sources found.sources) = drawn_after found units ∙ ap (λ (r : Result (Unit {0}) Fault). r >>= λ _. Ok (drawn_sources found.sources)) there in
-    subst (λ (r : Result (List DrawnSource) Fault). MakesProject (IsFontOfDrawn path found r) result) (sym drawn) makes
+    subst (λ (r : Result (List DrawnSource) Fault). MakesProject (IsFontOfDrawn path images found r) result) (sym drawn) makes
 
 -- a test of what is seen in place of the masters and the rows is one of the font's
 pub fit_seen : (P : Result (Unit {0}) Fault → Type 0) (masters : Masters) (found : FontSources) (seen rows : List (List Outline)) (names : List (List ℕ)) → locations masters ≡ master_locations found → seen ≡ rows → names ≡ found.names
@@ -131,3 +132,18 @@ fit_seen P masters found seen rows names at drawn named holds =
     subst (λ (list : List (List ℕ)). P (all_fit (master_regions found) (master_locations found) rows list)) named
     (subst (λ (list : List (List Outline)). P (all_fit (master_regions found) (master_locations found) list names)) drawn
     (subst (λ (list : List (List ℤ)). P (all_fit (regions_of list) list seen names)) at holds))
+
+-- ---- the images
+
+-- what is made of images that are right is made of the outlines
+pub made_of_images : (path : List ℕ) (images : List Image) (found : FontSources) (codes : List (ℕ × ℕ)) (outlined made : List OutlinedSource) (result : Result Project ReadStop) → filtered images found.names (default_number found) outlined ≡ Ok made
+    → MakesProject (λ answer. answer ≡ font_of path found codes made) result → MakesProject (λ answer. answer ≡ font_filtered path images found codes outlined) result
+made_of_images path images found codes outlined made result is makes =
+    subst (λ (font : Result Font Fault). MakesProject (λ answer. answer ≡ font) result) (sym (ap (λ (read : Result (List OutlinedSource) Fault). read >>= font_of path found codes) is)) makes
+
+-- and an image out of limits is the font's fault
+pub images_stop : (path : List ℕ) (images : List Image) (found : FontSources) (codes : List (ℕ × ℕ)) (outlined : List OutlinedSource) (stop : ReadStop) → StopsBy stop (filtered images found.names (default_number found) outlined)
+    → StopsWith (λ answer. answer ≡ font_filtered path images found codes outlined) stop
+images_stop path images found codes outlined (Refused fault) stops = sym (ap (λ (read : Result (List OutlinedSource) Fault). read >>= font_of path found codes) stops)
+images_stop path images found codes outlined (ReadFault place) stops = tt
+images_stop path images found codes outlined NoMemory stops = tt

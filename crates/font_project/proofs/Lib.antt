@@ -1,8 +1,12 @@
+mod Alike
 mod CodesFit
 mod Counting
 mod DesignLemmas
 mod DrawnSources
 mod FitModels
+mod FilterLists
+mod FilteredOutlines
+mod FilteredSources
 mod Flattening
 mod FontSteps
 mod JoinedSteps

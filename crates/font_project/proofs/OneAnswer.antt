@@ -13,7 +13,8 @@ use Rattle.font_sources.specs.Sources.{sources_at}
 use Rattle.font_sources.specs.declared.found.FontSources.{FontSources}
 use Rattle.font_model.specs.Fonts.{Font}
 use Rattle.font_project.specs.Flats.{AreFlatSources, IsFlat}
-use Rattle.font_project.specs.Fonts.{AreOutlined, IsFontOf, IsFontOfDrawn, OneAnswer, default_codes, default_number, drawn_of, font_of, outlined_of}
+use Rattle.font_project.specs.Fonts.{AreOutlined, IsFontOf, IsFontOfDrawn, OneAnswer, default_codes, default_number, drawn_of, font_filtered, outlined_of}
+use Rattle.font_project.specs.Filtering.{Image}
 use Rattle.font_project.specs.declared.drawn.DrawnSource.{DrawnSource}
 use Rattle.font_project.specs.declared.flat.Flat.{Flat}
 use Rattle.font_project.specs.declared.flat.Flat.TheVariants.{Outlines, Refused}
@@ -77,15 +78,15 @@ outlined_once laws names default drawn a b left right =
 
 -- ---- one font
 
-drawn_font_once : AreLaws → (path : List ℕ) (found : FontSources) (drawn : Result (List DrawnSource) Fault) (a b : Result Font Fault) → IsFontOfDrawn path found drawn a → IsFontOfDrawn path found drawn b → a ≡ b
-drawn_font_once laws path found (Err fault) a b left right = left ∙ sym right
-drawn_font_once laws path found (Ok drawn) a b left right =
-    let finish : Result (List OutlinedSource) Fault → Result Font Fault = λ outlined. outlined >>= font_of path found (default_codes found drawn) in
+drawn_font_once : AreLaws → (path : List ℕ) (images : List Image) (found : FontSources) (drawn : Result (List DrawnSource) Fault) (a b : Result Font Fault) → IsFontOfDrawn path images found drawn a → IsFontOfDrawn path images found drawn b → a ≡ b
+drawn_font_once laws path images found (Err fault) a b left right = left ∙ sym right
+drawn_font_once laws path images found (Ok drawn) a b left right =
+    let finish : Result (List OutlinedSource) Fault → Result Font Fault = λ outlined. outlined >>= font_filtered path images found (default_codes found drawn) in
     left.2 ∙ (ap finish (outlined_once laws found.names (default_number found) drawn left.0 right.0 left.1 right.1) ∙ sym right.2)
 
-font_once : AreLaws → (path : List ℕ) (found : Result FontSources Fault) (a b : Result Font Fault) → IsFontOf path found a → IsFontOf path found b → a ≡ b
-font_once laws path (Err fault) a b left right = left ∙ sym right
-font_once laws path (Ok found) a b left right = drawn_font_once laws path found (drawn_of found) a b left right
+font_once : AreLaws → (path : List ℕ) (images : List Image) (found : Result FontSources Fault) (a b : Result Font Fault) → IsFontOf path images found a → IsFontOf path images found b → a ≡ b
+font_once laws path images (Err fault) a b left right = left ∙ sym right
+font_once laws path images (Ok found) a b left right = drawn_font_once laws path images found (drawn_of found) a b left right
 
 pub one_answer : AreLaws → OneAnswer
-one_answer laws files path a b left right = font_once laws path (sources_at files path) a b left right
+one_answer laws files path images a b left right = font_once laws path images (sources_at files path) a b left right

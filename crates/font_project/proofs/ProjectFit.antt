@@ -23,7 +23,7 @@ use Rattle.font_model.specs.Fonts.{numbered}
 use Rattle.font_model.specs.declared.parts.Project.{Project}
 use Rattle.font_project.specs.Columns.{column, columns, no_outlines, nothing, rows_in}
 use Rattle.font_project.specs.Fonts.{default_number, default_outlined, master_locations}
-use Rattle.font_project.specs.Limits.{AreOutlinedWithin, IsFrameWithin}
+use Rattle.font_project.specs.Limits.{AreAlikeWithin, IsFrameWithin}
 use Rattle.font_project.specs.Making.{IsJoinedOf}
 use Rattle.font_project.specs.Ruled.{AreRuled}
 use Rattle.font_project.specs.declared.ruled.Ruled.{Ruled}
@@ -36,8 +36,8 @@ use Rattle.font_project.specs.declared.outlined.OutlinedSource.{OutlinedSource}
 use Rattle.font_project.proofs.FitModels.{fit_model}
 use Rattle.font_project.proofs.OutlinedSources.{zip_at, zip_length}
 use Rattle.font_project.proofs.Passing.{below_length, item_at}
-use Rattle.font_project.proofs.Rows.{count_length, counted, default_in_column, fit_rows, kinds_same, row_at, row_within, some_order}
-use Rattle.font_project.proofs.Sizing.{models_size, same_sizes, sources_few}
+use Rattle.font_project.proofs.Rows.{count_length, counted, default_in_column, fit_rows, row_at, row_within, some_order}
+use Rattle.font_project.proofs.Sizing.{models_size}
 
 -- ---- the names
 
@@ -45,7 +45,7 @@ names_back : (names : List (List ℕ)) (number : ℕ) → names_of (numbered num
 names_back [] number = refl
 names_back (name ∷ names) number = ap (λ (rest : List (List ℕ)). name ∷ rest) (names_back names (number + 1))
 
-numbered_length : (names : List (List ℕ)) (number : ℕ) → length (numbered number names) ≡ length names
+pub numbered_length : (names : List (List ℕ)) (number : ℕ) → length (numbered number names) ≡ length names
 numbered_length [] number = refl
 numbered_length (name ∷ names) number = ap suc (numbered_length names (number + 1))
 
@@ -110,12 +110,12 @@ default_columns outlined order count some size =
 -- ---- the project
 
 -- the masters' rows fit
-fit_all : (found : FontSources) (outlined : List OutlinedSource) → IsFrameWithin found → AreOutlinedWithin found.names (length found.design.sources) (default_number found) outlined
+fit_all : (found : FontSources) (outlined : List OutlinedSource) → IsFrameWithin found → AreAlikeWithin (length found.names) (length found.design.sources) (default_number found) outlined
     → AreFitRows (length found.design.sources) (length found.names) (rows_in outlined found.order)
 fit_all found outlined frame within =
     let listed : length (locations_of found.design.sources) ≡ length found.design.sources = length-map found.design.sources (λ (source : Source). source.location.items) in
     subst (λ (n : ℕ). AreFitRows n (length found.names) (rows_in outlined found.order)) listed
-    (fit_rows found.names (locations_of found.design.sources) found.order outlined frame.order (subst (λ (n : ℕ). AreOutlinedWithin found.names n (default_number found) outlined) (sym listed) within))
+    (fit_rows found.names (locations_of found.design.sources) found.order outlined frame.order (subst (λ (n : ℕ). AreAlikeWithin (length found.names) n (default_number found) outlined) (sym listed) within))
 
 -- so do the models
 fit_models : (found : FontSources) (outlined : List OutlinedSource) (masters : Masters) (models : List GlyphModel) → AreFitRows (length masters.sorted) (length found.names) (rows_in outlined found.order) → AreReady masters
@@ -131,7 +131,7 @@ fit_models found outlined masters models fit ready some are tuples = λ k d belo
     fit_model scalars more (length masters.sorted) (column rows k) (get_or models k d) model (tuples k d below) (fit.within k inside) (length-map rows (λ row. get_or row k nothing) ∙ fit.one_each) some ready.few
 
 -- and their points are few
-few_points : (found : FontSources) (outlined : List OutlinedSource) (masters : Masters) (models : List GlyphModel) → IsFrameWithin found → AreOutlinedWithin found.names (length found.design.sources) (default_number found) outlined
+few_points : (found : FontSources) (outlined : List OutlinedSource) (masters : Masters) (models : List GlyphModel) → IsFrameWithin found → AreAlikeWithin (length found.names) (length found.design.sources) (default_number found) outlined
     → AreFitRows (length found.design.sources) (length found.names) (rows_in outlined found.order) → AllZip (IsModelOf (regions masters) (locations masters)) (columns (rows_in outlined found.order) (length found.names)) models
     → sum_by points_in models ≤ 16777216
 few_points found outlined masters models frame within fit are =
@@ -140,25 +140,16 @@ few_points found outlined masters models frame within fit are =
     let own = row_at outlined default in
     let some = some_order (locations_of found.design.sources) found.order frame.order in
     let here = row_within found.names (length found.design.sources) default default outlined within within.there in
-    let there : default < length outlined = omega (arith, within.there, within.one_each) in
     let counts : All (λ column. length column ≡ length found.design.sources) (columns rows (length found.names)) = λ k d below.
     let inside : k < length (count_from (length found.names) 0) = omega (arith, below, length-map (count_from (length found.names) 0) (column rows)) in
     ap length (get_or-map (column rows) (count_from (length found.names) 0) k 0 d inside) ∙ (length-map rows (λ row. get_or row (get_or (count_from (length found.names) 0) k 0) nothing) ∙ fit.one_each) in
-    let sized : (number : ℕ) → number < length outlined → sum_by outline_size (get_or outlined number no_outlines).outlines ≡ sum_by outline_size own = λ number below.
-    let source = row_within found.names (length found.design.sources) default number outlined within (omega (arith, below, within.one_each)) in
-    same_sizes (get_or outlined number no_outlines).outlines own (source.one_each ∙ sym here.one_each)
-    (λ glyph inside. kinds_same found.names (default_outlined outlined default) outlined within.shapes number (get_or outlined number no_outlines) (item_at outlined number no_outlines below) glyph
-    (omega (arith, inside, source.one_each)) (omega (arith, inside, source.one_each, here.one_each)) inside) in
-    let few : length outlined * sum_by outline_size own ≤ 16777216 =
-    sources_few (sum_by outline_size own) default outlined there sized (subst (λ (n : ℕ). are_few outlined (default_first default n) ≡ Ok tt) (sym within.one_each) within.few) in
     let sum : sum_by points_in models ≡ length found.design.sources * sum_by outline_size own =
     models_size (regions masters) (locations masters) (length found.design.sources) (columns rows (length found.names)) models counts are
     ∙ ap (λ (list : List Outline). length found.design.sources * sum_by outline_size list) (default_columns outlined found.order (length found.names) some here.one_each) in
-    let product : length outlined * sum_by outline_size own ≡ length found.design.sources * sum_by outline_size own = ap (λ (n : ℕ). n * sum_by outline_size own) within.one_each in
-    omega (arith, sum, few, product)
+    omega (arith, sum, within.few)
 
 pub is_fit : (found : FontSources) (ruled : Ruled) (codes : List (ℕ × ℕ)) (outlined : List OutlinedSource) (masters : Masters) (models : List GlyphModel) (project : Project) → IsFrameWithin found → AreGlyphCodes (length found.names) codes
-    → AreOutlinedWithin found.names (length found.design.sources) (default_number found) outlined → IsJoinedOf found ruled codes masters models project → AreRuled found ruled → AreReady masters → locations masters ≡ master_locations found
+    → AreAlikeWithin (length found.names) (length found.design.sources) (default_number found) outlined → IsJoinedOf found ruled codes masters models project → AreRuled found ruled → AreReady masters → locations masters ≡ master_locations found
     → length masters.sorted ≡ length found.design.sources → AllZip (IsModelOf (regions masters) (locations masters)) (columns (rows_in outlined found.order) (length found.names)) models → All AreTuplesWithin models → IsFit project
 is_fit found ruled codes outlined masters models project frame characters within joined right ready same one_each are tuples =
     let rows = fit_all found outlined frame within in

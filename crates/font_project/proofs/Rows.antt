@@ -18,7 +18,7 @@ use Rattle.region_support.proofs.LocationLemmas.{number_below, order_length}
 use Rattle.delta_solve.specs.GlyphModels.{default_of}
 use Rattle.font_project.specs.Columns.{column, no_outlines, nothing, rows_in}
 use Rattle.font_project.specs.Fonts.{default_outlined}
-use Rattle.font_project.specs.Limits.{AreOutlinedWithin, IsOutlinedWithin}
+use Rattle.font_project.specs.Limits.{AreAlikeWithin, IsOutlinedWithin}
 use Rattle.font_project.specs.Masters.{AreFitRows}
 use Rattle.font_project.specs.Shapes.{has_shape, has_shape_in_each, have_shapes, same_shape_or, shapes_differ}
 use Rattle.font_project.specs.declared.outlined.OutlinedSource.{OutlinedSource}
@@ -107,14 +107,13 @@ column_length : (outlined : List OutlinedSource) (order : List ℕ) (glyph : ℕ
 column_length outlined [] glyph = refl
 column_length outlined (number ∷ order) glyph = ap suc (column_length outlined order glyph)
 
-pub row_within : (names : List (List ℕ)) (sources default number : ℕ) (outlined : List OutlinedSource) → AreOutlinedWithin names sources default outlined → number < sources → IsOutlinedWithin (length names) (get_or outlined number no_outlines)
+pub row_within : (names : List (List ℕ)) (sources default number : ℕ) (outlined : List OutlinedSource) → AreAlikeWithin (length names) sources default outlined → number < sources → IsOutlinedWithin (length names) (get_or outlined number no_outlines)
 row_within names sources default number outlined within below = within.each number no_outlines (omega (arith, below, within.one_each))
 
-pub fit_rows : (names : List (List ℕ)) (listed : List (List ℤ)) (order : List ℕ) (outlined : List OutlinedSource) → IsOrder listed order → AreOutlinedWithin names (length listed) (get_or order 0 0) outlined
+pub fit_rows : (names : List (List ℕ)) (listed : List (List ℤ)) (order : List ℕ) (outlined : List OutlinedSource) → IsOrder listed order → AreAlikeWithin (length names) (length listed) (get_or order 0 0) outlined
     → AreFitRows (length listed) (length names) (rows_in outlined order)
 fit_rows names listed order outlined is within =
-    let some = some_order listed order is in
-    let first = within.there in record {
+    let some = some_order listed order is in record {
       one_each = length-map order (row_at outlined) ∙ order_count listed order is;
       within = λ glyph inside k d below.
           let place : k < length order = omega (arith, below, column_length outlined order glyph) in
@@ -123,10 +122,6 @@ fit_rows names listed order outlined is within =
       alike = λ glyph inside k d below.
           let place : k < length order = omega (arith, below, column_length outlined order glyph) in
           let number : get_or order k 0 < length listed = number_below listed order is k 0 place in
-          let source = row_within names (length listed) (get_or order 0 0) (get_or order k 0) outlined within number in
-          let default = row_within names (length listed) (get_or order 0 0) (get_or order 0 0) outlined within first in
           ap contour_kinds (in_column outlined order glyph k d place)
-          ∙ (kinds_same names (default_outlined outlined (get_or order 0 0)) outlined within.shapes (get_or order k 0) (get_or outlined (get_or order k 0) no_outlines)
-          (item_at outlined (get_or order k 0) no_outlines (omega (arith, number, within.one_each))) glyph inside (omega (arith, inside, default.one_each)) (omega (arith, inside, source.one_each))
-          ∙ ap contour_kinds (sym (default_in_column outlined order glyph some)));
+          ∙ (within.alike (get_or order k 0) glyph number inside ∙ ap contour_kinds (sym (default_in_column outlined order glyph some)));
     }

@@ -22,6 +22,7 @@ use Rattle.font_project.specs.Components.{have_bases}
 use Rattle.font_project.specs.Outlining.{are_flat, outlined_sources}
 use Rattle.font_project.specs.Shapes.{have_shapes}
 use Rattle.font_project.specs.Sizes.{are_few}
+use Rattle.font_project.specs.Filtering.{Image, filtered}
 use Rattle.font_project.specs.Ruled.{rules_of}
 use Rattle.font_project.specs.Codes.{codes_of}
 use Rattle.font_project.specs.Columns.{no_outlines, rows_in, columns}
@@ -94,19 +95,24 @@ font_of path found codes outlined =
 abbrev pub default_codes : FontSources → List DrawnSource → List (ℕ × ℕ)
 default_codes found drawn = codes_of (default_drawn drawn (default_number found)).drawings
 
-abbrev pub IsFontOfDrawn : List ℕ → FontSources → Result (List DrawnSource) Fault → Result Font Fault → Type 0
-IsFontOfDrawn path found (Err fault) answer = answer ≡ Err fault
-IsFontOfDrawn path found (Ok drawn) answer =
+-- the font of these code points and of what becomes of the outlines under filters in order
+abbrev pub font_filtered : List ℕ → List Image → FontSources → List (ℕ × ℕ) → List OutlinedSource → Result Font Fault
+font_filtered path images found codes outlined = filtered images found.names (default_number found) outlined >>= font_of path found codes
+
+abbrev pub IsFontOfDrawn : List ℕ → List Image → FontSources → Result (List DrawnSource) Fault → Result Font Fault → Type 0
+IsFontOfDrawn path images found (Err fault) answer = answer ≡ Err fault
+IsFontOfDrawn path images found (Ok drawn) answer =
     (outlined : Result (List OutlinedSource) Fault) × AreOutlined found.names (default_number found) drawn outlined
-    × (answer ≡ (outlined >>= font_of path found (default_codes found drawn)))
+    × (answer ≡ (outlined >>= font_filtered path images found (default_codes found drawn)))
 
-abbrev pub IsFontOf : List ℕ → Result FontSources Fault → Result Font Fault → Type 0
-IsFontOf path (Err fault) answer = answer ≡ Err fault
-IsFontOf path (Ok found) answer = IsFontOfDrawn path found (drawn_of found) answer
+abbrev pub IsFontOf : List ℕ → List Image → Result FontSources Fault → Result Font Fault → Type 0
+IsFontOf path images (Err fault) answer = answer ≡ Err fault
+IsFontOf path images (Ok found) answer = IsFontOfDrawn path images found (drawn_of found) answer
 
--- the font that the document of this path describes, or its first fault
-abbrev pub IsFontAt : Files → List ℕ → Result Font Fault → Type 0
-IsFontAt files path answer = IsFontOf path (sources_at files path) answer
+-- the font that the document of this path describes, whose outlines become these images one after another, or its first
+-- fault
+abbrev pub IsFontAt : Files → List ℕ → List Image → Result Font Fault → Type 0
+IsFontAt files path images answer = IsFontOf path images (sources_at files path) answer
 
 abbrev pub OneAnswer : Type 0
-OneAnswer = (files : Files) (path : List ℕ) (a b : Result Font Fault) → IsFontAt files path a → IsFontAt files path b → a ≡ b
+OneAnswer = (files : Files) (path : List ℕ) (images : List Image) (a b : Result Font Fault) → IsFontAt files path images a → IsFontAt files path images b → a ≡ b

@@ -11,6 +11,8 @@ pub mod Ruled
 pub mod Codes
 pub mod Columns
 pub mod Deltas
+pub mod Filtering
+pub mod Images
 pub mod Masters
 pub mod Limits
 pub mod Fonts

@@ -11,6 +11,7 @@ mod components;
 mod deltas;
 mod drawn;
 mod faults;
+mod filtering;
 mod flat;
 mod joining;
 mod laws;

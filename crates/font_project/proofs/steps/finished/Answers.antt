@@ -7,15 +7,16 @@ use Rattle.glif.specs.declared.shape.Outline.{Outline}
 use Rattle.designspace.specs.declared.source.Source.{Source}
 use Rattle.delta_solve.specs.GlyphModels.{IsModelOf}
 use Rattle.font_sources.specs.Document.{locations_of}
+use Rattle.font_model.specs.Fonts.{numbered}
 use Rattle.font_project.specs.Columns.{columns, rows_in}
 use Rattle.font_project.specs.Deltas.{all_fit}
 use Rattle.font_project.specs.Fonts.{default_number, font_of, master_locations, master_regions}
-use Rattle.font_project.specs.Limits.{AreOutlinedWithin}
+use Rattle.font_project.specs.Limits.{AreAlikeWithin}
 use Rattle.font_project.specs.Making.{StopsWith}
 use Rattle.font_project.specs.Masters.{AreFitRows, locations, regions}
 use Rattle.font_project.specs.declared.outlined.OutlinedSource.{OutlinedSource}
 use Rattle.font_project.proofs.FontSteps.{fit_seen, fit_stops, font_fits, font_with, is_project, stops_right}
-use Rattle.font_project.proofs.ProjectFit.{columns_within, is_fit}
+use Rattle.font_project.proofs.ProjectFit.{columns_within, is_fit, numbered_length}
 use Rattle.font_project.proofs.Rows.{fit_rows, numbers_apart, numbers_below}
 use Rattle.font_project.proofs.steps.finished.Goals as goal
 
@@ -37,7 +38,7 @@ models_of-requires-clause-rows c =
     let rows : c.in_ok-rows.rows.items ≡ rows_in c.args.outlined c.args.found.order = c.in_ok-rows.ensures ∙ (ap (λ (list : List OutlinedSource). rows_in list c.as_slice.result.now) c.into_vec.ensures ∙ ap (rows_in c.args.outlined) c.as_slice.ensures) in
     let fit : AreFitRows (length (locations_of sources)) (length c.args.found.names) (rows_in c.args.outlined c.args.found.order) =
     fit_rows c.args.found.names (locations_of sources) c.args.found.order c.args.outlined c.requires.frame.order
-    (subst (λ (n : ℕ). AreOutlinedWithin c.args.found.names n (default_number c.args.found) c.args.outlined) (sym listed) c.requires.outlined) in
+    (subst (λ (n : ℕ). AreAlikeWithin (length c.args.found.names) n (default_number c.args.found) c.args.outlined) (sym listed) c.requires.outlined) in
     subst (λ (n : ℕ). AreFitRows n (length c.as_slice-2.result.now) c.in_ok-rows.rows.items) (listed ∙ sym c.in_ok-masters.ensures.one_each)
     (subst (λ (list : List (List ℕ)). AreFitRows (length (locations_of sources)) (length list) c.in_ok-rows.rows.items) (sym c.as_slice-2.ensures)
     (subst (AreFitRows (length (locations_of sources)) (length c.args.found.names)) (sym rows) fit))
@@ -64,7 +65,7 @@ returns-clause-makes c =
     let listed : length (locations_of sources) ≡ length sources = length-map sources (λ (source : Source). source.location.items) in
     let shaped : AreFitRows (length (locations_of sources)) (length c.args.found.names) (rows_in c.args.outlined c.args.found.order) =
     fit_rows c.args.found.names (locations_of sources) c.args.found.order c.args.outlined c.requires.frame.order
-    (subst (λ (n : ℕ). AreOutlinedWithin c.args.found.names n (default_number c.args.found) c.args.outlined) (sym listed) c.requires.outlined) in (
+    (subst (λ (n : ℕ). AreAlikeWithin (length c.args.found.names) n (default_number c.args.found) c.args.outlined) (sym listed) c.requires.outlined) in (
       font_with c.args.found c.args.codes c.args.outlined,
       sym (font_fits c.args.path.now c.args.found c.args.codes c.args.outlined c.in_ok-ruled.ruled.substitutions.subs c.in_ok-ruled.ensures.answers fit),
       is_project c.args.found c.in_ok-ruled.ruled c.args.codes c.args.outlined c.in_ok-masters.masters c.in_ok-models.models c.joined.result c.joined.ensures c.in_ok-ruled.ensures.right c.in_ok-masters.ensures.ready c.in_ok-masters.ensures.same are,
@@ -80,3 +81,8 @@ returns-clause-fit c =
     subst (λ (list : List (List Outline)). AllZip (IsModelOf (regions c.in_ok-masters.masters) (locations c.in_ok-masters.masters)) (columns list (length c.args.found.names)) c.in_ok-models.models) rows named in
     is_fit c.args.found c.in_ok-ruled.ruled c.args.codes c.args.outlined c.in_ok-masters.masters c.in_ok-models.models c.joined.result c.requires.frame c.requires.codes c.requires.outlined c.joined.ensures c.in_ok-ruled.ensures.right
     c.in_ok-masters.ensures.ready c.in_ok-masters.ensures.same c.in_ok-masters.ensures.one_each are c.in_ok-models.ensures.within
+
+pub returns-clause-names : goal.returns-clause-names
+returns-clause-names c =
+    let entries : c.joined.result.names.entries ≡ numbered 0 c.args.found.names = ap (λ (names : _). names.entries) c.joined.ensures.names ∙ c.in_ok-ruled.ensures.right.names in
+    ap length entries ∙ numbered_length c.args.found.names 0
