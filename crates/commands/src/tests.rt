@@ -108,6 +108,12 @@ fn reads_words(rt: HostRuntime) -> Result<(), Fail> {
         let words = owned(alloc, words)?;
         assert!(rt; parse(alloc, &words)?.is_none(), "{words:?}");
     }
+    Ok(())
+}
+
+#[test]
+fn reads_files(rt: HostRuntime) -> Result<(), Fail> {
+    let alloc = rt.alloc();
     for (words, design, out) in TAKEN {
         let words = owned(alloc, words)?;
         match parse(alloc, &words)? {
@@ -118,23 +124,43 @@ fn reads_words(rt: HostRuntime) -> Result<(), Fail> {
             _ => assert!(rt; false, "{words:?}"),
         }
     }
+    Ok(())
+}
+
+/// How many drawings a command names.
+fn drawing_count(command: &Command<'_>) -> usize {
+    match command {
+        Command::Tuples(command) => command.drawings.len(),
+        Command::Build(_) => 0,
+    }
+}
+
+#[test]
+fn reads_drawings(rt: HostRuntime) -> Result<(), Fail> {
+    let alloc = rt.alloc();
+    let words = owned(alloc, &["vfb", "tuples", "o", "a@0", "--", "-b@1"])?;
+    match &parse(alloc, &words)? {
+        Some(command) => assert_eq!(rt; drawing_count(command), 2),
+        None => assert!(rt; false),
+    }
+    Ok(())
+}
+
+#[test]
+fn reads_filters(rt: HostRuntime) -> Result<(), Fail> {
+    let alloc = rt.alloc();
     for (words, filters) in FILTERED {
         let words = owned(alloc, words)?;
         match parse(alloc, &words)? {
             Some(Command::Build(command)) => {
                 assert_eq!(rt; command.filters.len(), filters.len(), "{words:?}");
-                for (found, (name, text)) in command.filters.iter().zip(filters) {
-                    assert_eq!(rt; found.name, *name, "{words:?}");
-                    assert_eq!(rt; found.text, *text, "{words:?}");
+                for (number, found) in command.filters.iter().enumerate() {
+                    let wanted = filters.get(number);
+                    assert_eq!(rt; wanted, Some(&(found.name, found.text)), "{words:?}");
                 }
             }
             _ => assert!(rt; false, "{words:?}"),
         }
-    }
-    let words = owned(alloc, &["vfb", "tuples", "o", "a@0", "--", "-b@1"])?;
-    match parse(alloc, &words)? {
-        Some(Command::Tuples(command)) => assert_eq!(rt; command.drawings.len(), 2),
-        _ => assert!(rt; false),
     }
     Ok(())
 }
