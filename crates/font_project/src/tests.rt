@@ -4,6 +4,7 @@
 use crate::{Project, ReadStop, project};
 use basics::{Name, NoMemory, Seq};
 use delta_solve::GlyphModel;
+use filters::{GlyphFilter, Reverse, Shift};
 use outside::MemorySources;
 use std::alloc::Global;
 use std::fmt::Write;
@@ -31,6 +32,24 @@ const PROJECT: &str = ".notdef 0 a 1 b 2 [(65, 2), (122, 1)] \
 - [] [] 500 0 0 \
 - [3] [true, true, false] 0,0 100,0 50,80 500 0,0 20,0 0,0 60 0,0 40,0 10,10 100 \
 - [3] [true, true, false] 10,0 110,0 60,80 400 0,0 20,0 0,0 0 10,5 50,5 20,15 40";
+
+/// Texts of the filter `shift`, which comes after `reverse`; what the files are answered as then, and how often each filter
+/// was applied: three sources have three glyphs. The default source is read second and filtered first, and its first glyph
+/// has no points.
+const FILTERED: [(&str, &str, u64, u64); 3] = [
+    (
+        "10:-5",
+        ".notdef 0 a 1 b 2 [(65, 2), (122, 1)] \
+[0, 0] [8192, 0] [16384, 0] 0:0 0:16384 8192:16384 \
+- [] [] 500 0 0 \
+- [3] [true, false, true] 10,-5 60,75 110,-5 500 0,0 0,0 20,0 60 0,0 10,10 40,0 100 \
+- [3] [true, false, true] 20,-5 70,75 120,-5 400 0,0 0,0 20,0 0 10,5 20,15 50,5 40",
+        9,
+        9,
+    ),
+    ("16300:0", "A FilterRange a 1 0 16400 0", 2, 2),
+    ("16260:0", "B FilterRange a 1 0 16400 0", 5, 5),
+];
 
 /// What stands in place of the files, and what is refused: each fault together with one that comes after it.
 const FAULTS: [(&str, &str); 11] = [
@@ -295,13 +314,29 @@ fn stop_line(alloc: Global, stop: &ReadStop) -> Result<String, NoMemory> {
     Ok(line)
 }
 
-/// What the document is answered as.
-fn answer_line(alloc: Global, written: &str, failing: &[u64]) -> Result<String, NoMemory> {
+/// What the document is answered as, where its outlines go through filters.
+fn filtered_line(
+    alloc: Global,
+    written: &str,
+    failing: &[u64],
+    filters: &mut Vec<Box<dyn GlyphFilter>>,
+) -> Result<String, NoMemory> {
     let mut sources = memory(alloc, written, failing)?;
-    match project(alloc, &mut sources, "f") {
+    match project(alloc, &mut sources, "f", filters) {
         Ok(project) => project_line(alloc, &project),
         Err(stop) => stop_line(alloc, &stop),
     }
+}
+
+/// What the document is answered as without filters.
+fn answer_line(alloc: Global, written: &str, failing: &[u64]) -> Result<String, NoMemory> {
+    let mut none = Vec::new(alloc);
+    filtered_line(alloc, written, failing, &mut none)
+}
+
+/// How often the filter was applied.
+fn touched(filter: &Box<dyn GlyphFilter>) -> u64 {
+    filter.touched()
 }
 
 /// Asserts the answer.
@@ -338,5 +373,27 @@ fn refusals(rt: HostRuntime) -> Result<(), Fail> {
 fn reads_that_fail(rt: HostRuntime) -> Result<(), Fail> {
     let line = answer_line(rt.alloc(), "", &[1])?;
     assert_eq!(rt; line.as_str(), "A/metainfo.plist read fault");
+    Ok(())
+}
+
+#[test]
+fn filters(rt: HostRuntime) -> Result<(), Fail> {
+    let alloc = rt.alloc();
+    for (text, answer, reversed, shifted) in FILTERED {
+        let mut shift = Shift::new();
+        assert!(rt; shift.configure(text), "{text}");
+        let mut filters: Vec<Box<dyn GlyphFilter>> = Vec::new(alloc);
+        filters.push(Box::new(alloc, Reverse::new())?)?;
+        filters.push(Box::new(alloc, shift)?)?;
+        let line = filtered_line(alloc, "", &[], &mut filters)?;
+        assert_eq!(rt; line.as_str(), answer, "{text}");
+        match filters.as_slice() {
+            [first, second] => {
+                assert_eq!(rt; touched(first), reversed, "{text}");
+                assert_eq!(rt; touched(second), shifted, "{text}");
+            }
+            _ => assert!(rt; false, "{text}"),
+        }
+    }
     Ok(())
 }
