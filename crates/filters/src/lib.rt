@@ -16,6 +16,6 @@ pub use filter::GlyphFilter;
 pub use in_order::apply_all;
 pub use laws::{reverse_law, shift_law};
 pub use named::take_called;
-pub use refusal::FilterRefusal;
+pub use refusal::{FilterRefusal, limited};
 pub use reverse::Reverse;
 pub use shift::Shift;

@@ -46,7 +46,7 @@ impl<T: Drop> From<AllocFailed<T>> for FilterRefusal {
 }
 
 /// The image, where it is within limits, or else the refusal of it.
-pub(crate) fn limited(image: Outline) -> Result<Outline, FilterRefusal>
+pub fn limited(image: Outline) -> Result<Outline, FilterRefusal>
     ensures { Applies image result }
 {
     match within(&image) {

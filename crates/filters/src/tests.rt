@@ -7,8 +7,7 @@ ghost use Rattle.glif.specs.declared.shape.Outline.{Outline};
 
 mod lists;
 
-use crate::refusal::limited;
-use crate::{FilterRefusal, GlyphFilter, Reverse, Shift};
+use crate::{FilterRefusal, GlyphFilter, Reverse, Shift, limited};
 use basics::{NoMemory, Seq};
 use glif::{Outline, Point, within};
 use std::alloc::{AllocError, Global};

@@ -7,3 +7,4 @@ pub mod StoppedLemmas
 pub mod PerformingLemmas
 pub mod SayingLemmas
 pub mod LeavingLemmas
+pub mod ChoosingLemmas

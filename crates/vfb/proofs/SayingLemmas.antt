@@ -1,13 +1,13 @@
 -- What is said in all: the text of a command itself, and then the line of how it ended.
-use Rattle.std.proofs.Common.{◌≡◌, ℕ, ◌≤◌, List, [], ◌∷◌, ◌++◌, codes, Bor, Option, Some, None, Result, Ok, Err, OnOk, OnErr, refl, sym, ◌∙◌, ap, subst, inl, inr, arith, append_assoc, append-nil}
+use Rattle.std.proofs.Common.{◌≡◌, ℕ, ◌≤◌, List, [], ◌∷◌, ◌++◌, codes, Bor, Result, Ok, Err, OnOk, OnErr, refl, sym, ◌∙◌, ap, subst, inl, inr, arith, append_assoc, append-nil}
 use Rattle.std.proofs.lemmas.List.{append_cancel_left}
 use Rattle.outside.specs.Files.{Files, IsPrefix, HasRisen}
 use Rattle.outside.specs.Said.{Says}
 use Rattle.outside.specs.States.{SourcesState, OutputsState, SayState}
-use Rattle.commands.specs.Command.{Command}
+use Rattle.vfb.specs.Calls.{Call, Task}
 use Rattle.vfb.specs.Ending.{status_of, ending_line}
 use Rattle.vfb.specs.Product.{Product}
-use Rattle.vfb.specs.Lines.{AddsLine, write_fault_line, read_fault_line, refused_line}
+use Rattle.vfb.specs.Lines.{AddsLine, write_fault_line, read_fault_line, refused_line, usage_line}
 use Rattle.vfb.specs.Outcome.{IsAnswer, IsAnswerTo, SaysOf, IsSaid, Fails, IsCut, BreaksOff, HasWork, EndsBy}
 use Rattle.vfb.specs.Performing.{SaysPrefix, SaysItself, IsSaidItself, CutsText, IsCutItself, Performs}
 use Rattle.vfb.specs.declared.status.Status.{Status}
@@ -52,29 +52,30 @@ BreaksOff-from text old mid new first second says adds =
 -- ---- the whole
 
 module _ {inner later risen : Type 0} (first : inner → risen) (second : later → risen) where
-  SaysOf-from : (command : Command) (files : Files) (old mid new : List ℕ) (ending : Ending)
-      → IsAnswerTo command files (status_of ending) → SaysItself command files inner old mid ending → AddsLine later (ending_line ending) mid new
-      → SaysOf command files risen old new (status_of ending)
-  SaysOf-from command files old mid new Done answer (product, is, says) adds = (product, is, AddsLine-none mid new adds ∙ says)
-  SaysOf-from command files old mid new (Refused fault) answer says adds = AddsLine-wider (refused_line fault) old mid new second says adds
-  SaysOf-from command files old mid new Usage answer says adds = absurd answer
-  SaysOf-from command files old mid new (ReadFault path) answer (at, same) adds = (path, at, AddsLine-wider (read_fault_line path) old mid new second same adds)
-  SaysOf-from command files old mid new (WriteFault path) answer (product, is, inl (at, same)) adds =
+  SaysOf-from : (task : Task) (files : Files) (old mid new : List ℕ) (ending : Ending)
+      → IsAnswerTo task files (status_of ending) → SaysItself task files inner old mid ending → AddsLine later (ending_line ending) mid new
+      → SaysOf task files risen old new (status_of ending)
+  SaysOf-from task files old mid new Done answer (product, is, says) adds = (product, is, AddsLine-none mid new adds ∙ says)
+  SaysOf-from task files old mid new (Refused fault) answer says adds = AddsLine-wider (refused_line fault) old mid new second says adds
+  SaysOf-from task files old mid new (Usage _) answer says adds = absurd answer
+  SaysOf-from task files old mid new (ReadFault path) answer (at, same) adds = (path, at, AddsLine-wider (read_fault_line path) old mid new second same adds)
+  SaysOf-from task files old mid new (WriteFault path) answer (product, is, inl (at, same)) adds =
       (product, is, inl (path.now, at, AddsLine-wider (write_fault_line path.now) old mid new second same adds))
-  SaysOf-from command files old mid new (WriteFault path) answer (product, is, inr (at, says)) adds =
+  SaysOf-from task files old mid new (WriteFault path) answer (product, is, inr (at, says)) adds =
       (product, is, inr (BreaksOff-from product.text old mid new first second says (subst (λ path. AddsLine later (write_fault_line path) mid new) at adds)))
-  SaysOf-from command files old mid new NoMemory answer says adds = AddsLine-wider _ old mid new second says adds
+  SaysOf-from task files old mid new NoMemory answer says adds = AddsLine-wider _ old mid new second says adds
 
-  pub IsSaid-from : (command : Option Command) (files : Files) (old mid new : List ℕ) (ending : Ending)
-      → IsAnswer command files (status_of ending) → IsSaidItself command files inner old mid ending → AddsLine later (ending_line ending) mid new
-      → IsSaid command files risen old new (status_of ending)
-  IsSaid-from None files old mid new Usage answer says adds = AddsLine-wider _ old mid new second says adds
-  IsSaid-from None files old mid new NoMemory answer says adds = AddsLine-wider _ old mid new second says adds
-  IsSaid-from None files old mid new Done answer says adds = absurd answer
-  IsSaid-from None files old mid new (Refused _) answer says adds = absurd answer
-  IsSaid-from None files old mid new (ReadFault _) answer says adds = absurd answer
-  IsSaid-from None files old mid new (WriteFault _) answer says adds = absurd answer
-  IsSaid-from (Some command) files old mid new ending answer says adds = SaysOf-from command files old mid new ending answer says adds
+  pub IsSaid-from : (call : Call) (files : Files) (old mid new : List ℕ) (ending : Ending)
+      → IsAnswer call files (status_of ending) → IsSaidItself call files inner old mid ending → AddsLine later (ending_line ending) mid new
+      → IsSaid call files risen old new (status_of ending)
+  IsSaid-from (Err misuse) files old mid new (Usage found) answer (same, says) adds =
+      AddsLine-wider (usage_line misuse) old mid new second says (subst (λ misuse. AddsLine later (usage_line misuse) mid new) same adds)
+  IsSaid-from (Err misuse) files old mid new NoMemory answer says adds = AddsLine-wider _ old mid new second says adds
+  IsSaid-from (Err misuse) files old mid new Done answer says adds = absurd answer
+  IsSaid-from (Err misuse) files old mid new (Refused _) answer says adds = absurd answer
+  IsSaid-from (Err misuse) files old mid new (ReadFault _) answer says adds = absurd answer
+  IsSaid-from (Err misuse) files old mid new (WriteFault _) answer says adds = absurd answer
+  IsSaid-from (Ok task) files old mid new ending answer says adds = SaysOf-from task files old mid new ending answer says adds
 
   Fails-from : (product : Product) (old new : Files) (said_old said_mid said_new : List ℕ) (path : Bor (List ℕ))
       → CutsText product inner old new said_old said_mid (WriteFault path) → AddsLine later (write_fault_line path.now) said_mid said_new
@@ -84,17 +85,17 @@ module _ {inner later risen : Type 0} (first : inner → risen) (second : later 
   Fails-from product old new said_old said_mid said_new path (inr (at, whole, says)) adds =
       inr (whole, BreaksOff-from product.text said_old said_mid said_new first second says (subst (λ path. AddsLine later (write_fault_line path) said_mid said_new) at adds))
 
-  pub IsCut-from : (command : Option Command) (files : Files) (old new : Files) (said_old said_mid said_new : List ℕ) (ending : Ending)
-      → status_of ending ≡ status.WriteFault → IsCutItself command files inner old new said_old said_mid ending → AddsLine later (ending_line ending) said_mid said_new
-      → IsCut command files risen old new said_old said_new
-  IsCut-from None files old new said_old said_mid said_new (WriteFault path) is cut adds = absurd cut
-  IsCut-from (Some command) files old new said_old said_mid said_new (WriteFault path) is (product, made, cut) adds =
+  pub IsCut-from : (call : Call) (files : Files) (old new : Files) (said_old said_mid said_new : List ℕ) (ending : Ending)
+      → status_of ending ≡ status.WriteFault → IsCutItself call files inner old new said_old said_mid ending → AddsLine later (ending_line ending) said_mid said_new
+      → IsCut call files risen old new said_old said_new
+  IsCut-from (Err misuse) files old new said_old said_mid said_new (WriteFault path) is cut adds = absurd cut
+  IsCut-from (Ok task) files old new said_old said_mid said_new (WriteFault path) is (product, made, cut) adds =
       (product, made, Fails-from product old new said_old said_mid said_new path cut adds)
-  IsCut-from command files old new said_old said_mid said_new Done is cut adds = absurd cc
-  IsCut-from command files old new said_old said_mid said_new (Refused _) is cut adds = absurd cc
-  IsCut-from command files old new said_old said_mid said_new Usage is cut adds = absurd cc
-  IsCut-from command files old new said_old said_mid said_new (ReadFault _) is cut adds = absurd cc
-  IsCut-from command files old new said_old said_mid said_new NoMemory is cut adds = absurd cc
+  IsCut-from call files old new said_old said_mid said_new Done is cut adds = absurd cc
+  IsCut-from call files old new said_old said_mid said_new (Refused _) is cut adds = absurd cc
+  IsCut-from call files old new said_old said_mid said_new (Usage _) is cut adds = absurd cc
+  IsCut-from call files old new said_old said_mid said_new (ReadFault _) is cut adds = absurd cc
+  IsCut-from call files old new said_old said_mid said_new NoMemory is cut adds = absurd cc
 
 -- ---- counts of faults
 
@@ -108,25 +109,25 @@ rises_late old mid new grows rose = omega arith
 -- ---- a command and its line
 
 module _ {V E : Type 0} {sources sources' : SourcesState} {outputs outputs' : OutputsState} {say mid last : SayState}
-    {command : Option Command} {ending : Ending} {result : Result V E} {state : Status}
-    (does : Performs sources sources' outputs outputs' say mid command ending)
+    {call : Call} {ending : Ending} {result : Result V E} {state : Status}
+    (does : Performs sources sources' outputs outputs' say mid call ending)
     (says : Says mid last (ending_line ending) result) (is : state ≡ status_of ending) where
   adds : say.tells → AddsLine (HasRisen mid.faults last.faults) (ending_line ending) mid.said last.said
   adds told = AddsLine-from result (ending_line ending) mid.said last.said (says.whole (does.told told)) (says.prefix (does.told told)) says.risen
 
-  pub IsSaid-with_line : sources.tells → say.tells → IsSaid command sources.files (HasRisen say.faults last.faults) say.said last.said state
+  pub IsSaid-with_line : sources.tells → say.tells → IsSaid call sources.files (HasRisen say.faults last.faults) say.said last.said state
   IsSaid-with_line told told_said =
-      subst (IsSaid command sources.files (HasRisen say.faults last.faults) say.said last.said) (sym is)
+      subst (IsSaid call sources.files (HasRisen say.faults last.faults) say.said last.said) (sym is)
       (IsSaid-from (rises_early say.faults mid.faults last.faults says.counted) (rises_late say.faults mid.faults last.faults does.counted)
-      command sources.files say.said mid.said last.said ending (does.answer told) (does.said_itself told told_said) (adds told_said))
+      call sources.files say.said mid.said last.said ending (does.answer told) (does.said_itself told told_said) (adds told_said))
 
   pub IsCut-with_line : sources.tells → outputs.tells → say.tells → state ≡ status.WriteFault
-      → IsCut command sources.files (HasRisen say.faults last.faults) outputs.files outputs'.files say.said last.said
+      → IsCut call sources.files (HasRisen say.faults last.faults) outputs.files outputs'.files say.said last.said
   IsCut-with_line told told_outputs told_said fails =
       IsCut-from (rises_early say.faults mid.faults last.faults says.counted) (rises_late say.faults mid.faults last.faults does.counted)
-      command sources.files outputs.files outputs'.files say.said mid.said last.said ending (sym is ∙ fails) (does.cut told told_outputs told_said) (adds told_said)
+      call sources.files outputs.files outputs'.files say.said mid.said last.said ending (sym is ∙ fails) (does.cut told told_outputs told_said) (adds told_said)
 
-  pub complete-with_line : sources.tells → HasWork command sources.files → (HasRisen sources.faults sources'.faults → ⊥) → (HasRisen outputs.faults outputs'.faults → ⊥)
+  pub complete-with_line : sources.tells → HasWork call sources.files → (HasRisen sources.faults sources'.faults → ⊥) → (HasRisen outputs.faults outputs'.faults → ⊥)
       → (HasRisen say.faults last.faults → ⊥) → EndsBy ⊥ state
   complete-with_line told has reads writes saying =
       subst (EndsBy ⊥) (sym is)

@@ -61,6 +61,10 @@ pub record Task : Type 0 where
   pub command : Command
   pub images : List Image
 
+-- a command whose outlines stay as they are
+abbrev pub unfiltered : Command → Task
+unfiltered command = record { command = command; images = [] }
+
 -- the filters that a command asks for
 abbrev pub filter_words : Command → List FilterWord
 filter_words (tuples command) = []

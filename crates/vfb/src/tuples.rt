@@ -2,6 +2,7 @@ ghost use Rattle.std.specs.Prelude.{◌≡◌, IfOk, string_bytes};
 ghost use Rattle.source_files.specs.Stops.{Reads};
 ghost use Rattle.commands.specs.Command.{tuples};
 ghost use Rattle.commands.specs.Proper.{AreLocated};
+ghost use Rattle.vfb.specs.Calls.{unfiltered};
 ghost use Rattle.vfb.specs.Making.{Makes, counts_of};
 ghost use Rattle.commands.specs.Words.{asked_tuples};
 ghost use Rattle.vfb.specs.Work.{IsReadBy};
@@ -34,7 +35,7 @@ pub(crate) fn make_tuples<'a, S: Sources>(
     sources: &mut S,
 ) -> Result<Product<'a>, ReadStop>
     requires { AreLocated (asked_tuples command.now).drawings }
-    ensures { Reads (S.state sources.old) (S.state sources.new) (IsReadBy (S.state sources.old).tells (S.state sources.old).files (tuples (asked_tuples command.now))) (Makes (S.state sources.old).files (tuples (asked_tuples command.now)) result) result }
+    ensures { Reads (S.state sources.old) (S.state sources.new) (IsReadBy (S.state sources.old).tells (S.state sources.old).files (tuples (asked_tuples command.now))) (Makes (S.state sources.old).files (unfiltered (tuples (asked_tuples command.now))) result) result }
 {
     let data = make_data(alloc, command, sources)?;
     let text = counts_of(alloc, &data)?;

@@ -6,7 +6,7 @@ use super::*;
 const FONT_WORDS: &[&str] = &["vfb", "build", "s.designspace", "o.ttf"];
 
 /// Two sources, at the ends of one axis.
-const DOCUMENT: &str = r#"<?xml version="1.0" encoding="UTF-8"?>
+pub(super) const DOCUMENT: &str = r#"<?xml version="1.0" encoding="UTF-8"?>
 <designspace format="5.0">
 <axes><axis tag="wght" name="Weight" minimum="100" maximum="900" default="100"/></axes>
 <sources>
@@ -118,7 +118,7 @@ const BOLD_SPACE: &str =
     "<glyph name=\"space\" format=\"2\"><advance width=\"260\"/><unicode hex=\"0020\"/></glyph>";
 
 /// The files of the two sources.
-const SOURCES: [(&str, &str); 8] = [
+pub(super) const SOURCES: [(&str, &str); 8] = [
     ("L.ufo/metainfo.plist", METAINFO),
     ("L.ufo/glyphs/contents.plist", CONTENTS),
     ("L.ufo/glyphs/box.glif", LIGHT_BOX),
@@ -130,7 +130,7 @@ const SOURCES: [(&str, &str); 8] = [
 ];
 
 /// What is said of the font of the first document.
-const SUMMARY: &str = "glyphs 3\nmasters 2\naxes 1\ntuples 2\nexplicit 2 of 4\n";
+pub(super) const SUMMARY: &str = "glyphs 3\nmasters 2\naxes 1\ntuples 2\nexplicit 2 of 4\n";
 
 /// A run over a document, without one of the files of its sources, where these calls fail; and then its
 /// status, what it says and how many bytes `o.ttf` holds.
@@ -252,7 +252,7 @@ fn held_after(rt: &impl Abort, alloc: Global, case: &FontCase) -> Result<Option<
     let rooms = room(alloc, "o.ttf", 9_999)?;
     let mut outputs = MemoryOutputs::new(alloc, rooms, numbers(alloc, case.writes)?)?;
     let mut say = MemorySay::new(alloc, 99, numbers(alloc, case.says)?)?;
-    let status = run(alloc, &words, &mut sources, &mut outputs, &mut say);
+    let status = run(alloc, &words, Vec::new(alloc), &mut sources, &mut outputs, &mut say);
     let said = case.said;
     assert_eq!(rt; status.number(), case.status, "{said}");
     assert_eq!(rt; say.said(), said.as_bytes(), "{said}");
@@ -291,7 +291,7 @@ fn builds_fonts_in_their_room(rt: HostRuntime) -> Result<(), Fail> {
     let mut sources = SureSources::new(font_files(alloc, DOCUMENT, "")?);
     let mut outputs = SureOutputs::new(alloc, room(alloc, "o.ttf", font.len() as u64)?)?;
     let mut say = SureSay::new(alloc, SUMMARY.len() as u64)?;
-    let status = run(alloc, &words, &mut sources, &mut outputs, &mut say);
+    let status = run(alloc, &words, Vec::new(alloc), &mut sources, &mut outputs, &mut say);
     assert_eq!(rt; status.number(), 0);
     assert_eq!(rt; outputs.held("o.ttf"), Some(font.as_slice()));
     assert_eq!(rt; say.said(), SUMMARY.as_bytes());

@@ -4,6 +4,7 @@ use Rattle.std.proofs.lemmas.Result.{err_from_is_err_and}
 use Rattle.basics.specs.Reading.{◌>>=◌}
 use Rattle.commands.specs.Command.{tuples}
 use Rattle.commands.specs.Words.{asked_tuples}
+use Rattle.vfb.specs.Calls.{unfiltered}
 use Rattle.vfb.specs.Glyph.{IsDataOf}
 use Rattle.vfb.specs.Making.{counts_of, shown_file}
 use Rattle.vfb.specs.Product.{File}
@@ -41,5 +42,5 @@ returns g c =
 pub returns-in_err-data : goal.returns-in_err-data
 returns-in_err-data g c =
     let stops = err_from_is_err_and c.from_residual.result c.from_residual.ensures.1 in
-    stopped_as (tuples (asked_tuples c.args.command.now)) c.from_residual.result c.in_err-data.field-0.0 (stops.1 ∙ ap Err stops.2)
+    stopped_as (unfiltered (tuples (asked_tuples c.args.command.now))) c.from_residual.result c.in_err-data.field-0.0 (stops.1 ∙ ap Err stops.2)
     (stopped_tuples (asked_tuples c.args.command.now) c.in_err-data.field-0.0 c.in_err-data.ensures)
