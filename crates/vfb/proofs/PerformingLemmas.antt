@@ -1,14 +1,16 @@
 -- What performing a command comes to: its product is made, and written; or making it stopped; or there is none.
-use Rattle.std.proofs.Common.{◌≡◌, ℕ, arith, List, [], ◌∷◌, Ok, Err, refl, sym, ◌∙◌, subst, inl, inr}
+use Rattle.std.proofs.Common.{◌≡◌, ℕ, arith, List, [], ◌∷◌, Ok, Err, refl, sym, ◌∙◌, subst, inl, inr, Some, Result}
 use Rattle.outside.specs.Files.{Files, HasRisen}
 use Rattle.outside.specs.States.{SourcesState, OutputsState, SayState}
+use Rattle.basics.specs.Reading.{◌>>=◌}
 use Rattle.basics.specs.declared.fault.Fault.{Fault}
 use Rattle.source_files.specs.Stops.{CountsStops, Names, NeverFails, Reads}
 use Rattle.source_files.specs.declared.stop.ReadStop.{ReadStop}
 use Rattle.source_files.specs.declared.stop.ReadStop.TheVariants as stop
-use Rattle.commands.specs.Command.{Command, Located, tuples, build}
+use Rattle.commands.specs.Command.{Command, FilterWord, Located, tuples, build}
 use Rattle.font_project.specs.Fonts.{OneAnswer}
-use Rattle.vfb.specs.Calls.{Call, Image, Misuse, Task}
+use Rattle.vfb.specs.Calls.{Call, Handed, Image, Misuse, Task, call_by, filter_words, images_of}
+use Rattle.vfb.specs.Choosing.{Chooses}
 use Rattle.vfb.specs.Stops.{StopsAt}
 use Rattle.vfb.specs.Ending.{ending_of, shown_misuse, status_of}
 use Rattle.vfb.specs.Making.{Makes, Stops, shown_product}
@@ -228,3 +230,26 @@ module _ (sources : SourcesState) (outputs : OutputsState) (say : SayState) wher
     told = λ told. told;
     counted = omega arith;
   }
+
+-- ---- the filters of a command
+
+-- they are had, and with their images it was performed
+pub performs_with : {sources sources' : SourcesState} {outputs outputs' : OutputsState} {say say' : SayState} (handed : List Handed) (command : Command) (words : List FilterWord) (images : List Image) (ending : Ending)
+    → words ≡ filter_words command → images_of handed words ≡ Ok images → Performs sources sources' outputs outputs' say say' (Ok (record { command = command; images = images })) ending
+    → Performs sources sources' outputs outputs' say say' (call_by handed (Some command)) ending
+performs_with {sources} {sources'} {outputs} {outputs'} {say} {say'} handed command words images ending are had performs =
+    subst (λ (call : Call). Performs sources sources' outputs outputs' say say' call ending)
+    (sym (ap (λ (read : Result (List Image) Misuse). read >>= λ images. Ok (record { command = command; images = images })) (ap (images_of handed) (sym are) ∙ had))) performs
+
+-- or one can't be had, or memory ran out over them
+pub performs_without : (sources : SourcesState) (outputs : OutputsState) (say : SayState) {A : Type 0} (image : A → Image) (handed : List Handed) (command : Command) (words : List FilterWord) (ending : Ending)
+    → words ≡ filter_words command → Chooses image (images_of handed words) (Err ending) → Performs sources sources outputs outputs say say (call_by handed (Some command)) ending
+performs_without sources outputs say image handed command words (Usage misuse) are chooses =
+    subst (λ (call : Call). Performs sources sources outputs outputs say say call (Usage misuse))
+    (sym (ap (λ (read : Result (List Image) Misuse). read >>= λ images. Ok (record { command = command; images = images })) (ap (images_of handed) (sym are) ∙ chooses)))
+    (performs_usage sources outputs say (shown_misuse misuse) misuse refl)
+performs_without sources outputs say image handed command words NoMemory are chooses = performs_no_memory sources outputs say (call_by handed (Some command))
+performs_without sources outputs say image handed command words Done are chooses = absurd chooses
+performs_without sources outputs say image handed command words (Refused fault) are chooses = absurd chooses
+performs_without sources outputs say image handed command words (ReadFault path) are chooses = absurd chooses
+performs_without sources outputs say image handed command words (WriteFault path) are chooses = absurd chooses
