@@ -8,3 +8,4 @@ pub mod PerformingLemmas
 pub mod SayingLemmas
 pub mod LeavingLemmas
 pub mod ChoosingLemmas
+pub mod Firsts

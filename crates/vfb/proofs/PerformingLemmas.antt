@@ -1,5 +1,5 @@
 -- What performing a command comes to: its product is made, and written; or making it stopped; or there is none.
-use Rattle.std.proofs.Common.{◌≡◌, ℕ, arith, List, [], ◌∷◌, Ok, Err, refl, sym, ◌∙◌, subst, inl, inr, Some, Result}
+use Rattle.std.proofs.Common.{◌≡◌, ℕ, arith, List, [], ◌∷◌, Ok, Err, refl, sym, ◌∙◌, subst, inl, inr, Some, Result, ap}
 use Rattle.outside.specs.Files.{Files, HasRisen}
 use Rattle.outside.specs.States.{SourcesState, OutputsState, SayState}
 use Rattle.basics.specs.Reading.{◌>>=◌}
@@ -242,14 +242,14 @@ performs_with {sources} {sources'} {outputs} {outputs'} {say} {say'} handed comm
     (sym (ap (λ (read : Result (List Image) Misuse). read >>= λ images. Ok (record { command = command; images = images })) (ap (images_of handed) (sym are) ∙ had))) performs
 
 -- or one can't be had, or memory ran out over them
-pub performs_without : (sources : SourcesState) (outputs : OutputsState) (say : SayState) {A : Type 0} (image : A → Image) (handed : List Handed) (command : Command) (words : List FilterWord) (ending : Ending)
-    → words ≡ filter_words command → Chooses image (images_of handed words) (Err ending) → Performs sources sources outputs outputs say say (call_by handed (Some command)) ending
-performs_without sources outputs say image handed command words (Usage misuse) are chooses =
+pub performs_without : (sources : SourcesState) (outputs : OutputsState) (say : SayState) {V : Type 0} (images : V → List Image) (handed : List Handed) (command : Command) (words : List FilterWord) (ending : Ending)
+    → words ≡ filter_words command → Chooses images (images_of handed words) (Err ending) → Performs sources sources outputs outputs say say (call_by handed (Some command)) ending
+performs_without sources outputs say images handed command words (Usage misuse) are chooses =
     subst (λ (call : Call). Performs sources sources outputs outputs say say call (Usage misuse))
     (sym (ap (λ (read : Result (List Image) Misuse). read >>= λ images. Ok (record { command = command; images = images })) (ap (images_of handed) (sym are) ∙ chooses)))
     (performs_usage sources outputs say (shown_misuse misuse) misuse refl)
-performs_without sources outputs say image handed command words NoMemory are chooses = performs_no_memory sources outputs say (call_by handed (Some command))
-performs_without sources outputs say image handed command words Done are chooses = absurd chooses
-performs_without sources outputs say image handed command words (Refused fault) are chooses = absurd chooses
-performs_without sources outputs say image handed command words (ReadFault path) are chooses = absurd chooses
-performs_without sources outputs say image handed command words (WriteFault path) are chooses = absurd chooses
+performs_without sources outputs say images handed command words NoMemory are chooses = performs_no_memory sources outputs say (call_by handed (Some command))
+performs_without sources outputs say images handed command words Done are chooses = absurd chooses
+performs_without sources outputs say images handed command words (Refused fault) are chooses = absurd chooses
+performs_without sources outputs say images handed command words (ReadFault path) are chooses = absurd chooses
+performs_without sources outputs say images handed command words (WriteFault path) are chooses = absurd chooses

@@ -2,7 +2,7 @@
 use Rattle.std.specs.Prelude.{ℕ, ℤ, Bool, List, [], ◌∷◌, filter, Option, Some, None, Result, Ok, Err}
 use Rattle.std.specs.Str.{bytes_eq}
 use Rattle.basics.specs.Reading.{◌>>=◌}
-use Rattle.filters.specs.Named.{without}
+use Rattle.vfb.specs.Named.{without}
 use Rattle.glif.specs.declared.shape.Outline.{Outline}
 use Rattle.commands.specs.Command.{Command, FilterWord, tuples, build}
 
@@ -49,9 +49,9 @@ image_of word None = Err (called_filter word.name)
 -- first such word counts.
 abbrev pub images_of : List Handed → List FilterWord → Result (List Image) Misuse
 images_of handed [] = Ok []
-images_of handed (word ∷ words) =
+images_of handed (word ∷ more) =
     image_of word (only (filter (is_called word.name) handed)) >>= λ image.
-    images_of (without (is_called word.name) handed) words >>= λ images.
+    images_of (without (is_called word.name) handed) more >>= λ images.
     Ok (image ∷ images)
 
 -- ---- the task

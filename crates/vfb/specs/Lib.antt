@@ -1,3 +1,4 @@
+pub mod Named
 pub mod BuiltFont
 pub mod Calls
 pub mod Choosing

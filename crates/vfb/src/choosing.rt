@@ -2,23 +2,17 @@ ghost use Rattle.std.specs.Prelude.{◌≡◌, filter, map, option_map, IfSome, 
 ghost use Rattle.std.specs.Str.{bytes_eq};
 ghost use Rattle.std.specs.List.{list_any};
 ghost use Rattle.commands.specs.Words.{seen_word};
-ghost use Rattle.filters.specs.Named.{without};
+ghost use Rattle.vfb.specs.Named.{without};
 ghost use Rattle.vfb.specs.Calls.{image_of, images_of, is_called, only, seen};
 ghost use Rattle.vfb.specs.Choosing.{Chooses, Configures};
 
 use crate::ending::Ending;
 use crate::misuse::Misuse;
+use crate::named::{is_called, take_called};
 use basics::NoMemory;
 use commands::FilterWord;
-use filters::{GlyphFilter, take_called};
+use filters::GlyphFilter;
 use std::alloc::Global;
-
-/// Whether the filter has this name.
-fn is_called(filter: &Box<dyn GlyphFilter>, name: &str) -> bool
-    ensures { result ≡ bytes_eq (called filter.now) name.now }
-{
-    filter.name() == name
-}
 
 /// Whether one of the filters has this name.
 fn is_there(handed: &[Box<dyn GlyphFilter>], name: &str) -> bool
@@ -32,10 +26,7 @@ fn is_there(handed: &[Box<dyn GlyphFilter>], name: &str) -> bool
 
 /// Takes the one filter of this name out of the list, or answers None exactly where no filter has it, or two have. The
 /// others stay in their order.
-fn take_only(
-    handed: &mut Vec<Box<dyn GlyphFilter>>,
-    name: &str,
-) -> Option<Box<dyn GlyphFilter>>
+fn take_only(handed: &mut Vec<Box<dyn GlyphFilter>>, name: &str) -> Option<Box<dyn GlyphFilter>>
     ensures taken { option_map (seen called setting_of image) result ≡ only (filter (is_called name.now) (map (seen called setting_of image) handed.old.items)) }
     ensures others { IfSome result (λ _. map (seen called setting_of image) handed.new.items ≡ without (is_called name.now) (map (seen called setting_of image) handed.old.items)) }
 {
@@ -73,7 +64,7 @@ pub(crate) fn choose<'a>(
     handed: Vec<Box<dyn GlyphFilter>>,
     words: &[FilterWord<'a>],
 ) -> Result<Vec<Box<dyn GlyphFilter>>, Ending<'a>>
-    ensures { Chooses (λ filter. image filter (setting filter)) (images_of (map (seen called setting_of image) handed.items) (map seen_word words.now)) result }
+    ensures { Chooses (λ chosen. map (λ filter. image filter (setting filter)) chosen.items) (images_of (map (seen called setting_of image) handed.items) (map seen_word words.now)) result }
 {
     let mut handed = handed;
     let mut chosen = Vec::new(alloc);

@@ -74,11 +74,11 @@ fn font_of<'a>(alloc: Global, out: &'a str, project: &Project) -> Result<Product
 pub(crate) fn make_font<'a, S: Sources>(
     alloc: Global,
     command: &Build<'a>,
-    filters: &mut Vec<Box<dyn GlyphFilter>>,
+    mut filters: Vec<Box<dyn GlyphFilter>>,
     sources: &mut S,
 ) -> Result<Product<'a>, ReadStop>
-    ensures { Reads (S.state sources.old) (S.state sources.new) (IsReadBy (S.state sources.old).tells (S.state sources.old).files (build (asked_build command.now))) (Makes (S.state sources.old).files (record { command = build (asked_build command.now); images = map (λ filter. image filter (setting filter)) filters.old.items }) result) result }
+    ensures { Reads (S.state sources.old) (S.state sources.new) (IsReadBy (S.state sources.old).tells (S.state sources.old).files (build (asked_build command.now))) (Makes (S.state sources.old).files (record { command = build (asked_build command.now); images = map (λ filter. image filter (setting filter)) filters.items }) result) result }
 {
-    let project = project(alloc, sources, command.design, filters)?;
+    let project = project(alloc, sources, command.design, &mut filters)?;
     Ok(font_of(alloc, command.out, &project)?)
 }

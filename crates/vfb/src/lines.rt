@@ -42,7 +42,7 @@ pub(crate) fn say_refused<T: Say>(say: &mut T, fault: &Fault) -> Result<(), Fail
 
 /// Says what is wrong with the words.
 pub(crate) fn say_usage<T: Say>(say: &mut T, misuse: Misuse<'_>) -> Result<(), Failed>
-    ensures { Says (T.state say.old) (T.state say.new) (usage_line (shown_misuse misuse)) result }
+    ensures { Says (T.state say.old) (T.state say.new) (usage_line (shown_misuse misuse.entry)) result }
 {
     match misuse {
         Misuse::Words => say_all(say, &[Piece::Word("usage words\n")]),

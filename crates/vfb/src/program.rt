@@ -32,11 +32,11 @@ use std::alloc::Global;
 fn make<'a, S: Sources>(
     alloc: Global,
     command: &Command<'a>,
-    filters: &mut Vec<Box<dyn GlyphFilter>>,
+    filters: Vec<Box<dyn GlyphFilter>>,
     sources: &mut S,
 ) -> Result<Product<'a>, ReadStop>
     requires { IsProper (asked command.now) }
-    ensures { Reads (S.state sources.old) (S.state sources.new) (IsReadBy (S.state sources.old).tells (S.state sources.old).files (asked command.now)) (Makes (S.state sources.old).files (record { command = asked command.now; images = map (λ filter. image filter (setting filter)) filters.old.items }) result) result }
+    ensures { Reads (S.state sources.old) (S.state sources.new) (IsReadBy (S.state sources.old).tells (S.state sources.old).files (asked command.now)) (Makes (S.state sources.old).files (record { command = asked command.now; images = map (λ filter. image filter (setting filter)) filters.items }) result) result }
 {
     match command {
         Command::Tuples(command) => make_tuples(alloc, command, sources),
@@ -48,13 +48,13 @@ fn make<'a, S: Sources>(
 fn perform<'a, S: Sources, O: Outputs, T: Say>(
     alloc: Global,
     command: &Command<'a>,
-    filters: &mut Vec<Box<dyn GlyphFilter>>,
+    filters: Vec<Box<dyn GlyphFilter>>,
     sources: &mut S,
     outputs: &mut O,
     say: &mut T,
 ) -> Ending<'a>
     requires { IsProper (asked command.now) }
-    ensures { Performs (S.state sources.old) (S.state sources.new) (O.state outputs.old) (O.state outputs.new) (T.state say.old) (T.state say.new) (Ok (record { command = asked command.now; images = map (λ filter. image filter (setting filter)) filters.old.items })) result }
+    ensures { Performs (S.state sources.old) (S.state sources.new) (O.state outputs.old) (O.state outputs.new) (T.state say.old) (T.state say.new) (Ok (record { command = asked command.now; images = map (λ filter. image filter (setting filter)) filters.items })) result }
 {
     // Files have one font or one first fault.
     one_answer();
@@ -88,7 +88,7 @@ fn perform_filtered<'a, S: Sources, O: Outputs, T: Say>(
     ensures { Performs (S.state sources.old) (S.state sources.new) (O.state outputs.old) (O.state outputs.new) (T.state say.old) (T.state say.new) (call_by (map (seen called setting_of image) filters.items) (Some (asked command.now))) result }
 {
     match choose(alloc, filters, filter_words(command)) {
-        Ok(mut chosen) => perform(alloc, command, &mut chosen, sources, outputs, say),
+        Ok(chosen) => perform(alloc, command, chosen, sources, outputs, say),
         Err(ending) => ending,
     }
 }

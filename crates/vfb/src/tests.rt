@@ -317,7 +317,14 @@ fn check(
     let mut sources = SureSources::new(files(alloc, texts)?);
     let mut outputs = SureOutputs::new(alloc, room(alloc, "o.bin", 99)?)?;
     let mut say = SureSay::new(alloc, 99)?;
-    let ended = run(alloc, &words, Vec::new(alloc), &mut sources, &mut outputs, &mut say);
+    let ended = run(
+        alloc,
+        &words,
+        Vec::new(alloc),
+        &mut sources,
+        &mut outputs,
+        &mut say,
+    );
     assert_eq!(rt; ended.number(), status, "{said}");
     assert_eq!(rt; say.said(), said.as_bytes(), "{said}");
     assert_eq!(rt; outputs.held("o.bin"), held, "{said}");
@@ -376,7 +383,14 @@ fn refuses_a_long_file(rt: HostRuntime) -> Result<(), Fail> {
     let words = owned(alloc, WORDS)?;
     let mut outputs = SureOutputs::new(alloc, room(alloc, "o.bin", 99)?)?;
     let mut say = SureSay::new(alloc, 99)?;
-    let status = run(alloc, &words, Vec::new(alloc), &mut LongSources, &mut outputs, &mut say);
+    let status = run(
+        alloc,
+        &words,
+        Vec::new(alloc),
+        &mut LongSources,
+        &mut outputs,
+        &mut say,
+    );
     assert_eq!(rt; status.number(), 1);
     assert_eq!(rt;
         say.said(),
@@ -464,7 +478,14 @@ fn check_failing(rt: &impl Abort, alloc: Global, case: &Failing) -> Result<(), F
         numbers(alloc, case.writes)?,
     )?;
     let mut say = MemorySay::new(alloc, 99, numbers(alloc, case.says)?)?;
-    let status = run(alloc, &words, Vec::new(alloc), &mut sources, &mut outputs, &mut say);
+    let status = run(
+        alloc,
+        &words,
+        Vec::new(alloc),
+        &mut sources,
+        &mut outputs,
+        &mut say,
+    );
     let said = case.said;
     assert_eq!(rt; status.number(), case.status, "{said}");
     assert_eq!(rt; say.said(), said.as_bytes(), "{said}");
@@ -499,7 +520,14 @@ fn ends_where_there_is_no_room(rt: HostRuntime) -> Result<(), Fail> {
         let mut sources = SureSources::new(texts);
         let mut outputs = SureOutputs::new(alloc, room(alloc, "o.bin", data)?)?;
         let mut say = SureSay::new(alloc, text)?;
-        let ended = run(alloc, &words, Vec::new(alloc), &mut sources, &mut outputs, &mut say);
+        let ended = run(
+            alloc,
+            &words,
+            Vec::new(alloc),
+            &mut sources,
+            &mut outputs,
+            &mut say,
+        );
         assert_eq!(rt; ended.number(), status, "{said}");
         assert_eq!(rt; say.said(), said.as_bytes(), "{said}");
         assert_eq!(rt; outputs.held("o.bin"), MOVED_DATA.get(..held), "{said}");

@@ -252,7 +252,14 @@ fn held_after(rt: &impl Abort, alloc: Global, case: &FontCase) -> Result<Option<
     let rooms = room(alloc, "o.ttf", 9_999)?;
     let mut outputs = MemoryOutputs::new(alloc, rooms, numbers(alloc, case.writes)?)?;
     let mut say = MemorySay::new(alloc, 99, numbers(alloc, case.says)?)?;
-    let status = run(alloc, &words, Vec::new(alloc), &mut sources, &mut outputs, &mut say);
+    let status = run(
+        alloc,
+        &words,
+        Vec::new(alloc),
+        &mut sources,
+        &mut outputs,
+        &mut say,
+    );
     let said = case.said;
     assert_eq!(rt; status.number(), case.status, "{said}");
     assert_eq!(rt; say.said(), said.as_bytes(), "{said}");
@@ -291,7 +298,14 @@ fn builds_fonts_in_their_room(rt: HostRuntime) -> Result<(), Fail> {
     let mut sources = SureSources::new(font_files(alloc, DOCUMENT, "")?);
     let mut outputs = SureOutputs::new(alloc, room(alloc, "o.ttf", font.len() as u64)?)?;
     let mut say = SureSay::new(alloc, SUMMARY.len() as u64)?;
-    let status = run(alloc, &words, Vec::new(alloc), &mut sources, &mut outputs, &mut say);
+    let status = run(
+        alloc,
+        &words,
+        Vec::new(alloc),
+        &mut sources,
+        &mut outputs,
+        &mut say,
+    );
     assert_eq!(rt; status.number(), 0);
     assert_eq!(rt; outputs.held("o.ttf"), Some(font.as_slice()));
     assert_eq!(rt; say.said(), SUMMARY.as_bytes());

@@ -39,7 +39,15 @@ pub(super) fn outcome(
     let mut sources = SureSources::new(texts);
     let mut outputs = SureOutputs::new(alloc, room(alloc, "o.bin", 999)?)?;
     let mut say = SureSay::new(alloc, 99)?;
-    let status = run(alloc, &words, Vec::new(alloc), &mut sources, &mut outputs, &mut say).number();
+    let status = run(
+        alloc,
+        &words,
+        Vec::new(alloc),
+        &mut sources,
+        &mut outputs,
+        &mut say,
+    )
+    .number();
     let said = Vec::from_slice(alloc, say.said())?;
     let held = match outputs.held("o.bin") {
         Some(bytes) => Some(Vec::from_slice(alloc, bytes)?),

@@ -25,6 +25,6 @@ returns g c =
 
 pub returns-in_err-font_of : goal.returns-in_err-font_of
 returns-in_err-font_of g c =
-    let images : List Image = map (λ filter. (goal.GlyphFilter-dyn g (filter.vtable, filter.value)).image filter.value ((goal.GlyphFilter-dyn g (filter.vtable, filter.value)).setting filter.value)) c.args.filters.now.items in
+    let images : List Image = map (λ filter. (goal.GlyphFilter-dyn g (filter.vtable, filter.value)).image filter.value ((goal.GlyphFilter-dyn g (filter.vtable, filter.value)).setting filter.value)) c.args.filters.items in
     let stops = err_from_is_err_and c.from_residual-in_err-font_of.result c.from_residual-in_err-font_of.ensures.1 in
     ran_out images (asked_build c.args.command.now) c.in_ok-project.project c.from_residual-in_err-font_of.result (stops.1 ∙ ap Err stops.2) c.in_ok-project.ensures.exact
