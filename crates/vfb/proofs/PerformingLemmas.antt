@@ -10,7 +10,7 @@ use Rattle.source_files.specs.declared.stop.ReadStop.TheVariants as stop
 use Rattle.commands.specs.Command.{Command, FilterWord, Located, tuples, build}
 use Rattle.font_project.specs.Fonts.{OneAnswer}
 use Rattle.vfb.specs.Calls.{Call, Handed, Image, Misuse, Task, call_by, filter_words, images_of}
-use Rattle.vfb.specs.Choosing.{Chooses}
+use Rattle.vfb.specs.Choosing.{StopsBy}
 use Rattle.vfb.specs.Stops.{StopsAt}
 use Rattle.vfb.specs.Ending.{ending_of, shown_misuse, status_of}
 use Rattle.vfb.specs.Making.{Makes, Stops, shown_product}
@@ -242,14 +242,14 @@ performs_with {sources} {sources'} {outputs} {outputs'} {say} {say'} handed comm
     (sym (ap (λ (read : Result (List Image) Misuse). read >>= λ images. Ok (record { command = command; images = images })) (ap (images_of handed) (sym are) ∙ had))) performs
 
 -- or one can't be had, or memory ran out over them
-pub performs_without : (sources : SourcesState) (outputs : OutputsState) (say : SayState) {V : Type 0} (images : V → List Image) (handed : List Handed) (command : Command) (words : List FilterWord) (ending : Ending)
-    → words ≡ filter_words command → Chooses images (images_of handed words) (Err ending) → Performs sources sources outputs outputs say say (call_by handed (Some command)) ending
-performs_without sources outputs say images handed command words (Usage misuse) are chooses =
+pub performs_without : (sources : SourcesState) (outputs : OutputsState) (say : SayState) (handed : List Handed) (command : Command) (words : List FilterWord) (ending : Ending)
+    → words ≡ filter_words command → StopsBy (images_of handed words) ending → Performs sources sources outputs outputs say say (call_by handed (Some command)) ending
+performs_without sources outputs say handed command words (Usage misuse) are chooses =
     subst (λ (call : Call). Performs sources sources outputs outputs say say call (Usage misuse))
     (sym (ap (λ (read : Result (List Image) Misuse). read >>= λ images. Ok (record { command = command; images = images })) (ap (images_of handed) (sym are) ∙ chooses)))
     (performs_usage sources outputs say (shown_misuse misuse) misuse refl)
-performs_without sources outputs say images handed command words NoMemory are chooses = performs_no_memory sources outputs say (call_by handed (Some command))
-performs_without sources outputs say images handed command words Done are chooses = absurd chooses
-performs_without sources outputs say images handed command words (Refused fault) are chooses = absurd chooses
-performs_without sources outputs say images handed command words (ReadFault path) are chooses = absurd chooses
-performs_without sources outputs say images handed command words (WriteFault path) are chooses = absurd chooses
+performs_without sources outputs say handed command words NoMemory are chooses = performs_no_memory sources outputs say (call_by handed (Some command))
+performs_without sources outputs say handed command words Done are chooses = absurd chooses
+performs_without sources outputs say handed command words (Refused fault) are chooses = absurd chooses
+performs_without sources outputs say handed command words (ReadFault path) are chooses = absurd chooses
+performs_without sources outputs say handed command words (WriteFault path) are chooses = absurd chooses

@@ -10,9 +10,13 @@ abbrev pub Configures : {A : Type 0} → (A → Image) → Result Image Misuse �
 Configures image_of reading name (Some filter) = reading ≡ Ok (image_of filter)
 Configures image_of reading name None = reading ≡ Err (called_filter name)
 
--- the filters that all words ask for, whose images are told, or what is wrong; want of memory is free
+-- what is wrong; want of memory is free
+abbrev pub StopsBy : Result (List Image) Misuse → Ending → Type 0
+StopsBy reading (Usage misuse) = reading ≡ Err (shown_misuse misuse)
+StopsBy reading NoMemory = Unit {0}
+StopsBy reading _ = ⊥
+
+-- the filters that all words ask for, whose images are told, or what is wrong
 abbrev pub Chooses : {V : Type 0} → (V → List Image) → Result (List Image) Misuse → Result V Ending → Type 0
 Chooses images_of reading (Ok filters) = reading ≡ Ok (images_of filters)
-Chooses images_of reading (Err (Usage misuse)) = reading ≡ Err (shown_misuse misuse)
-Chooses images_of reading (Err NoMemory) = Unit {0}
-Chooses images_of reading (Err _) = ⊥
+Chooses images_of reading (Err ending) = StopsBy reading ending

@@ -13,4 +13,4 @@ returns-in-Ok g c =
 pub returns-in-Err : goal.returns-in-Err
 returns-in-Err g c =
     let handed : List Handed = map (seen (λ filter. (goal.GlyphFilter-dyn g (filter.vtable, filter.value)).called filter.value) (λ filter. (goal.GlyphFilter-dyn g (filter.vtable, filter.value)).setting_of filter.value) (λ filter. (goal.GlyphFilter-dyn g (filter.vtable, filter.value)).image filter.value)) c.args.filters.items in
-    performs_without (g.S.Sources.state c.args.sources.now) (g.O.Outputs.state c.args.outputs.now) (g.T.Say.state c.args.say.now) _ handed (asked c.args.command.now) (map seen_word c.filter_words.result.now) c.in-Err.ending c.filter_words.ensures c.in-Err.ensures
+    performs_without (g.S.Sources.state c.args.sources.now) (g.O.Outputs.state c.args.outputs.now) (g.T.Say.state c.args.say.now) handed (asked c.args.command.now) (map seen_word c.filter_words.result.now) c.in-Err.ending c.filter_words.ensures c.in-Err.ensures
