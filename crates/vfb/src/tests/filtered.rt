@@ -1,8 +1,8 @@
 //! Fonts whose outlines go through filters, and words that ask for filters that can't be had.
 
-ghost use Rattle.std.specs.Prelude.{◌≡◌, ◌+ℤ◌, pos, [], codes, IfOk, None};
+ghost use Rattle.std.specs.Prelude.{◌≡◌, ◌+ℤ◌, pos, [], codes, IfOk, Some};
 
-use super::fonts::{DOCUMENT, SOURCES, SUMMARY};
+use super::fonts::{BOLD_BOX, DOCUMENT, LIGHT_BOX, SOURCES, SUMMARY};
 use super::*;
 use filters::{FilterRefusal, GlyphFilter, Reverse, Shift, limited};
 use glif::{Outline, Point};
@@ -40,7 +40,7 @@ const REVERSED_BOLD: &str =
 "#;
 
 /// Words after `build s.designspace o.ttf`, and the squares that give the same font without filters.
-const IMAGES: [(&[&str], &str, &str); 6] = [
+const IMAGES: [(&[&str], &'static str, &'static str); 6] = [
     (&["--filter", "reverse"], REVERSED_LIGHT, REVERSED_BOLD),
     (&["--filter=reverse:"], REVERSED_LIGHT, REVERSED_BOLD),
     (
@@ -53,8 +53,8 @@ const IMAGES: [(&[&str], &str, &str); 6] = [
         TURNED_LIGHT,
         TURNED_BOLD,
     ),
-    (&["--filter", "shift:0:0"], SOURCES[2].1, SOURCES[6].1),
-    (&[], SOURCES[2].1, SOURCES[6].1),
+    (&["--filter", "shift:0:0"], LIGHT_BOX, BOLD_BOX),
+    (&[], LIGHT_BOX, BOLD_BOX),
 ];
 
 /// Such words where there is no font, and the status and what is said.
@@ -166,10 +166,10 @@ struct Ended {
 }
 
 /// A run over the two sources with these squares.
-fn ended(
+fn run_over(
     alloc: Global,
     more: &[&str],
-    squares: (&str, &str),
+    squares: (&'static str, &'static str),
     filters: Vec<Box<dyn GlyphFilter>>,
 ) -> Result<Ended, Fail> {
     let mut texts = Vec::new(alloc);
@@ -195,7 +195,7 @@ fn ended(
 }
 
 /// The squares of the sources as they stand.
-const SQUARES: (&str, &str) = (SOURCES[2].1, SOURCES[6].1);
+const SQUARES: (&str, &str) = (LIGHT_BOX, BOLD_BOX);
 
 #[test]
 fn builds_images(rt: HostRuntime) -> Result<(), Fail> {
@@ -204,8 +204,8 @@ fn builds_images(rt: HostRuntime) -> Result<(), Fail> {
         let mut filters: Vec<Box<dyn GlyphFilter>> = Vec::new(alloc);
         filters.push(Box::new(alloc, Shift::new())?)?;
         filters.push(Box::new(alloc, Reverse::new())?)?;
-        let found = ended(alloc, more, SQUARES, filters)?;
-        let wanted = ended(alloc, &[], (light, bold), Vec::new(alloc))?;
+        let found = run_over(alloc, more, SQUARES, filters)?;
+        let wanted = run_over(alloc, &[], (light, bold), Vec::new(alloc))?;
         assert_eq!(rt; found.status, 0, "{more:?}");
         assert_eq!(rt; found.said.as_slice(), SUMMARY.as_bytes(), "{more:?}");
         assert!(rt; found.held.is_some(), "{more:?}");
@@ -221,7 +221,7 @@ fn refuses_filters(rt: HostRuntime) -> Result<(), Fail> {
         let mut filters: Vec<Box<dyn GlyphFilter>> = Vec::new(alloc);
         filters.push(Box::new(alloc, Reverse::new())?)?;
         filters.push(Box::new(alloc, Shift::new())?)?;
-        let found = ended(alloc, more, SQUARES, filters)?;
+        let found = run_over(alloc, more, SQUARES, filters)?;
         assert_eq!(rt; found.status, status, "{more:?}");
         assert_eq!(rt; found.said.as_slice(), said.as_bytes(), "{more:?}");
         assert_eq!(rt; found.held.is_some(), status == 0, "{more:?}");
@@ -245,7 +245,7 @@ fn uses_filters_of_others(rt: HostRuntime) -> Result<(), Fail> {
         filters.push(Box::new(alloc, Reverse::new())?)?;
         filters.push(Box::new(alloc, Widen { wants_at, calls: 0 })?)?;
         filters.push(Box::new(alloc, Reverse::new())?)?;
-        let found = ended(alloc, more, SQUARES, filters)?;
+        let found = run_over(alloc, more, SQUARES, filters)?;
         assert_eq!(rt; found.status, status, "{more:?}");
         assert_eq!(rt; found.said.as_slice(), said.as_bytes(), "{more:?}");
         assert_eq!(rt; found.held.is_some(), status == 0, "{more:?}");

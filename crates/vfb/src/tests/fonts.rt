@@ -95,7 +95,7 @@ const CONTENTS: &str =
     "<plist version=\"1.0\"><dict><key>box</key><string>box.glif</string><key>space</key><string>space.glif</string></dict></plist>";
 
 /// A square.
-const LIGHT_BOX: &str =
+pub(super) const LIGHT_BOX: &str =
     r#"<glyph name="box" format="2"><advance width="120"/><unicode hex="25A1"/><outline><contour>
 <point x="0" y="0" type="line"/><point x="100" y="0" type="line"/>
 <point x="100" y="100" type="line"/><point x="0" y="100" type="line"/>
@@ -103,7 +103,7 @@ const LIGHT_BOX: &str =
 "#;
 
 /// The same, wider by 50 on the right.
-const BOLD_BOX: &str =
+pub(super) const BOLD_BOX: &str =
     r#"<glyph name="box" format="2"><advance width="170"/><unicode hex="25A1"/><outline><contour>
 <point x="0" y="0" type="line"/><point x="150" y="0" type="line"/>
 <point x="150" y="100" type="line"/><point x="0" y="100" type="line"/>
