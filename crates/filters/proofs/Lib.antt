@@ -1,3 +1,2 @@
 mod Applying
-mod Firsts
 pub mod Images

@@ -5,7 +5,6 @@
 mod filter;
 mod in_order;
 mod laws;
-mod named;
 mod refusal;
 mod reverse;
 mod shift;
@@ -15,7 +14,6 @@ mod tests;
 pub use filter::GlyphFilter;
 pub use in_order::apply_all;
 pub use laws::{reverse_law, shift_law};
-pub use named::take_called;
 pub use refusal::{FilterRefusal, limited};
 pub use reverse::Reverse;
 pub use shift::Shift;

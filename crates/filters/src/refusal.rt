@@ -45,7 +45,7 @@ impl<T: Drop> From<AllocFailed<T>> for FilterRefusal {
     }
 }
 
-/// The image, where it is within limits, or else the refusal of it.
+/// The image, where it is within limits, or else the refusal of it: with this a filter's `apply` ends.
 pub fn limited(image: Outline) -> Result<Outline, FilterRefusal>
     ensures { Applies image result }
 {

@@ -1,7 +1,7 @@
-//! Lists of filters behind boxes: one taken by its name, and an outline through all in order.
+//! Lists of filters behind boxes: an outline through all in order.
 
 use super::{Dot, Widen, is_fit, outline, shown};
-use crate::{FilterRefusal, GlyphFilter, Reverse, Shift, apply_all, take_called};
+use crate::{FilterRefusal, GlyphFilter, Reverse, Shift, apply_all};
 use glif::Outline;
 use std::alloc::{AllocError, Global};
 use std::fmt::Write;
@@ -84,24 +84,5 @@ fn refusals_in_order(rt: HostRuntime) -> Result<(), Fail> {
         assert_eq!(rt; answer_of_all(alloc, &mut filters, drawn)?.as_str(), want);
     }
     assert_eq!(rt; counts(alloc, &filters)?.as_str(), "widen 4;reverse 2;");
-    Ok(())
-}
-
-#[test]
-fn filters_by_name(rt: HostRuntime) -> Result<(), Fail> {
-    let alloc = rt.alloc();
-    let mut filters: Vec<Box<dyn GlyphFilter>> = Vec::new(alloc);
-    filters.push(Box::new(alloc, Shift::new())?)?;
-    filters.push(Box::new(alloc, Reverse::new())?)?;
-    filters.push(Box::new(alloc, Shift::new())?)?;
-    assert!(rt; take_called(&mut filters, "shif").is_none());
-    assert!(rt; take_called(&mut filters, "shiftt").is_none());
-    let taken = take_called(&mut filters, "reverse").ok_or("no filter")?;
-    assert_eq!(rt; taken.name(), "reverse");
-    assert!(rt; take_called(&mut filters, "reverse").is_none());
-    assert_eq!(rt; counts(alloc, &filters)?.as_str(), "shift 0;shift 0;");
-    let mut taken = take_called(&mut filters, "shift").ok_or("no filter")?;
-    assert!(rt; taken.configure("1:1"));
-    assert_eq!(rt; counts(alloc, &filters)?.as_str(), "shift 0;");
     Ok(())
 }

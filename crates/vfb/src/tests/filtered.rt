@@ -58,7 +58,7 @@ const IMAGES: [(&[&str], &'static str, &'static str); 6] = [
 ];
 
 /// Such words where there is no font, and the status and what is said.
-const REFUSED: [(&[&str], u8, &str); 11] = [
+const REFUSED: [(&[&str], u8, &str); 14] = [
     (
         &["--filter", "shift:16383:0"],
         1,
@@ -75,6 +75,9 @@ const REFUSED: [(&[&str], u8, &str); 11] = [
         "refused FilterRange B.ufo box 1 0 16390 0\n",
     ),
     (&["--filter", "turn"], 2, "usage filter turn\n"),
+    (&["--filter", "shif:1:1"], 2, "usage filter shif\n"),
+    (&["--filter", "shiftt:1:1"], 2, "usage filter shiftt\n"),
+    (&["--filter", "SHIFT:1:1"], 2, "usage filter SHIFT\n"),
     (&["--filter", "shift"], 2, "usage filter shift\n"),
     (&["--filter", "reverse:x"], 2, "usage filter reverse\n"),
     (&["--filter", "shift:1:2:"], 2, "usage filter shift\n"),
