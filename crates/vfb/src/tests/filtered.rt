@@ -39,6 +39,14 @@ const REVERSED_BOLD: &str =
 </contour></outline></glyph>
 "#;
 
+/// The square with the greatest advance width.
+const WIDEST_BOX: &str =
+    r#"<glyph name="box" format="2"><advance width="16383"/><unicode hex="25A1"/><outline><contour>
+<point x="0" y="0" type="line"/><point x="100" y="0" type="line"/>
+<point x="100" y="100" type="line"/><point x="0" y="100" type="line"/>
+</contour></outline></glyph>
+"#;
+
 /// Words after `build s.designspace o.ttf`, and the squares that give the same font without filters.
 const IMAGES: [(&[&str], &'static str, &'static str); 6] = [
     (&["--filter", "reverse"], REVERSED_LIGHT, REVERSED_BOLD),
@@ -233,22 +241,35 @@ fn refuses_filters(rt: HostRuntime) -> Result<(), Fail> {
 }
 
 /// Two filters of one name may be handed in where the name isn't called for. A filter of the caller's own is used like
-/// the others; where it wants memory, no file is begun.
+/// the others; where it wants memory, or makes one glyph too wide, no file is begun.
 #[test]
 fn uses_filters_of_others(rt: HostRuntime) -> Result<(), Fail> {
     let alloc = rt.alloc();
-    let rows: [(&[&str], u64, u8, &str); 4] = [
-        (&["--filter=reverse"], 0, 2, "usage filter reverse\n"),
-        (&[], 1, 0, SUMMARY),
-        (&["--filter=widen"], 0, 0, SUMMARY),
-        (&["--filter=widen"], 4, 5, "no memory\n"),
+    let rows: [(&[&str], u64, &'static str, u8, &str); 5] = [
+        (
+            &["--filter=reverse"],
+            0,
+            BOLD_BOX,
+            2,
+            "usage filter reverse\n",
+        ),
+        (&[], 1, BOLD_BOX, 0, SUMMARY),
+        (&["--filter=widen"], 0, BOLD_BOX, 0, SUMMARY),
+        (&["--filter=widen"], 4, BOLD_BOX, 5, "no memory\n"),
+        (
+            &["--filter=widen"],
+            0,
+            WIDEST_BOX,
+            1,
+            "refused FilterRange B.ufo box 0 0 16384 0\n",
+        ),
     ];
-    for (more, wants_at, status, said) in rows {
+    for (more, wants_at, bold, status, said) in rows {
         let mut filters: Vec<Box<dyn GlyphFilter>> = Vec::new(alloc);
         filters.push(Box::new(alloc, Reverse::new())?)?;
         filters.push(Box::new(alloc, Widen { wants_at, calls: 0 })?)?;
         filters.push(Box::new(alloc, Reverse::new())?)?;
-        let found = run_over(alloc, more, SQUARES, filters)?;
+        let found = run_over(alloc, more, (LIGHT_BOX, bold), filters)?;
         assert_eq!(rt; found.status, status, "{more:?}");
         assert_eq!(rt; found.said.as_slice(), said.as_bytes(), "{more:?}");
         assert_eq!(rt; found.held.is_some(), status == 0, "{more:?}");
