@@ -51,7 +51,7 @@ fn copied(alloc: Global, attributes: &[Attribute<'_>]) -> Result<Seq<(Name, Name
 impl Open {
     /// An element that has just begun.
     fn new(alloc: Global, tag: &Tag<'_>) -> Result<Open, NoMemory>
-        ensures { IfOk result (λ open. frame_of open ≡ begun (at_of (tag_tree tag.now)) (opening_of tag.now)) }
+        ensures { IfOk result (λ begun_one. frame_of begun_one ≡ begun (at_of (tag_tree tag.now)) (opening_of tag.now)) }
     {
         Ok(Open {
             name: Name::from_str(alloc, tag.name)?,
@@ -64,7 +64,7 @@ impl Open {
 
     /// The element where it has ended, which takes no more memory than it needs.
     fn end(self, alloc: Global) -> Result<Element, NoMemory>
-        ensures { IfOk result (λ element. plain element ≡ Rattle.markup_rules.specs.Outcome.ended (frame_of self.entry)) }
+        ensures { IfOk result (λ element. plain element ≡ Rattle.markup_rules.specs.Outcome.ended (frame_of self)) }
     {
         let mut children = self.children;
         children.shrink_to_fit();
@@ -104,7 +104,7 @@ impl TreePart {
 
     /// Begins an element in the innermost open one.
     fn begin(&mut self, element: Open) -> Result<(), NoMemory>
-        ensures { OnOk result (state_of self.new ≡ record (state_of self.old) { frames = frame_of element.entry ∷ (state_of self.old).frames }) }
+        ensures { OnOk result (state_of self.new ≡ record (state_of self.old) { frames = frame_of element ∷ (state_of self.old).frames }) }
     {
         match self.innermost.take() {
             Some(parent) => self.outer.push(parent)?,
@@ -176,7 +176,8 @@ fn read_tree(alloc: Global, text: &[u8]) -> Result<Element, Stop>
     ensures { Gives plain result (outcome text.now) }
 {
     let part = read_part(alloc, TreePart::new(alloc), text)?;
-    match part.root {
+    let root = part.root;
+    match root {
         Some(root) => Ok(root),
         None => Err(Stop::NoMemory),
     }
