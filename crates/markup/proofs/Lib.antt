@@ -2,6 +2,7 @@ pub mod Ascii
 pub mod ByteSearch
 mod Clauses
 pub mod Endings
+pub mod Lengths
 pub mod Prefixes
 pub mod Loops
 mod NameSets

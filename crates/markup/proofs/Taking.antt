@@ -1,5 +1,5 @@
 -- One item of which it is known what it is.
-use Rattle.std.proofs.Common.{◌≡◌, ℕ, ◌<◌, Bool, true, false, cond, List, [], ◌∷◌, length, drop, map, Option, Some, None, Ok, Err, refl, sym, ap, ◌∙◌, arith}
+use Rattle.std.proofs.Common.{◌≡◌, ℕ, ◌<◌, Bool, true, false, cond, not, List, [], ◌∷◌, length, drop, map, Option, Some, None, Ok, Err, refl, sym, ap, ◌∙◌, arith}
 use Rattle.std.specs.Prelude.{Result, ◌-◌, ◌&&◌, ◌==◌, nat_le}
 use Rattle.std.proofs.lemmas.Bool.{and_parts, eqb-true}
 use Rattle.std.proofs.lemmas.List.{length-map}
@@ -10,10 +10,10 @@ use Rattle.basics.specs.declared.fault.Stop.{Stop}
 use Rattle.basics.specs.declared.fault.Stop.TheVariants.{At, NoMemory}
 use Rattle.basics.specs.Reading.{Fails, IsStop}
 use Rattle.markup_rules.specs.Bytes.{starts_name}
-use Rattle.markup_rules.specs.Faults.{is_allowed_at, lacks_end, spot}
+use Rattle.markup_rules.specs.Faults.{Context, is_allowed_at, lacks_end, spot}
 use Rattle.markup_rules.specs.Outcome.{Frame, State, changed, context_of, step_by}
-use Rattle.markup_rules.specs.Reading.{Entry, Markup, bad, markup_of, item_at, opens}
-use Rattle.markup.specs.Openings.{opening_at}
+use Rattle.markup_rules.specs.Reading.{Entry, Markup, Opening, bad, markup_of, item_at, opens}
+use Rattle.markup.specs.Openings.{opened_as, opening_at}
 use Rattle.markup.specs.Steps.{step_at, taken}
 use Rattle.markup.proofs.Openings.{opening_cut, opening_none}
 
@@ -46,12 +46,18 @@ deep_last : (opening deep : Bool) → deep ≡ false → (opening && deep) ≡ f
 deep_last true deep e = e
 deep_last false deep e = refl
 
-whole_step : (total : ℕ) (s : State) (bytes : List ℕ) (m : Markup) → IsShallow s → lacks_end (context_of s) (item_at bytes).0 ≡ false → markup_of (item_at bytes).0 ≡ m → step_at total bytes s ≡ taken (total - length bytes) m s
+pub whole_step : (total : ℕ) (s : State) (bytes : List ℕ) (m : Markup) → (opens bytes && nat_le 64 (length (map (λ (f : Frame). f.name) s.frames))) ≡ false
+    → lacks_end (context_of s) (item_at bytes).0 ≡ false → markup_of (item_at bytes).0 ≡ m → step_at total bytes s ≡ taken (total - length bytes) m s
 whole_step total s bytes m shallow lacks means =
     let found = markup_of (item_at bytes).0 in
-    ap (λ deep. step_by total (entry_of bytes) s (tests total s bytes deep (lacks_end (context_of s) (item_at bytes).0) found)) (deep_last (opens bytes) _ shallow) ∙
+    ap (λ deep. step_by total (entry_of bytes) s (tests total s bytes deep (lacks_end (context_of s) (item_at bytes).0) found)) shallow ∙
     (ap (λ l. step_by total (entry_of bytes) s (tests total s bytes false l found)) lacks ∙
     (allowed_step total s bytes (is_allowed_at (context_of s) found) ∙ ap (λ m. taken (total - length bytes) m s) means))
+
+pub no_opening_step : (total : ℕ) (s : State) (bytes : List ℕ) (m : Markup) → opens bytes ≡ false → lacks_end (context_of s) (item_at bytes).0 ≡ false → markup_of (item_at bytes).0 ≡ m
+    → step_at total bytes s ≡ taken (total - length bytes) m s
+no_opening_step total s bytes m none lacks means =
+    whole_step total s bytes m (ap (λ b. b && nat_le 64 (length (map (λ (f : Frame). f.name) s.frames))) none) lacks means
 
 shallow_is : (s : State) → length s.frames < 64 → IsShallow s
 shallow_is s few = rw (length-map s.frames (λ (f : Frame). f.name)) (fewer (length s.frames) few)
@@ -64,7 +70,7 @@ pub opened_step : (total : ℕ) (s : State) (bytes : List ℕ) (m : Markup) (res
 opened_step total s bytes m rest opening few found =
     let cut = opening_cut (drop 1 bytes) m rest found in
     let is = (opens_is bytes opening).0 in (
-      whole_step total s bytes m (shallow_is s few) (ap (λ bs. lacks_end (context_of s) (item_at bs).0) is ∙ cut.ended (context_of s)) (ap (λ bs. markup_of (item_at bs).0) is ∙ cut.markup),
+      whole_step total s bytes m (deep_last (opens bytes) _ (shallow_is s few)) (ap (λ bs. lacks_end (context_of s) (item_at bs).0) is ∙ cut.ended (context_of s)) (ap (λ bs. markup_of (item_at bs).0) is ∙ cut.markup),
       sym (ap (λ bs. (item_at bs).1) is ∙ cut.follows),
     )
 
@@ -72,8 +78,21 @@ pub bad_step : (total : ℕ) (s : State) (bytes : List ℕ) → opens bytes ≡ 
     → step_at total bytes s ≡ Err (spot BadText (total - length bytes))
 bad_step total s bytes opening few none lacks =
     let is = opens_is bytes opening in
-    whole_step total s bytes bad (shallow_is s few) lacks (ap (λ bs. markup_of (item_at bs).0) is.0 ∙ opening_none (drop 1 bytes) is.1 none)
+    whole_step total s bytes bad (deep_last (opens bytes) _ (shallow_is s few)) lacks (ap (λ bs. markup_of (item_at bs).0) is.0 ∙ opening_none (drop 1 bytes) is.1 none)
 
-pub fails_with : (stop : Stop) (fault : Spot) (reading : Result State Spot) → IsStop stop fault → reading ≡ Err fault → Fails stop reading
+pub fails_with : {Y : Type 0} (stop : Stop) (fault : Spot) (reading : Result Y Spot) → IsStop stop fault → reading ≡ Err fault → Fails stop reading
 fails_with NoMemory fault reading is e = tt
 fails_with (At found) fault reading is e = e ∙ ap (λ (f : Spot). Err f) (sym is)
+
+pub taken_is : (at : ℕ) (m : Markup) (s : State) → is_allowed_at (context_of s) m ≡ true → taken at m s ≡ Ok (changed at m s)
+taken_is at m s allowed = rw allowed refl
+
+pub refused_is : (at : ℕ) (m : Markup) (s : State) → is_allowed_at (context_of s) m ≡ false → taken at m s ≡ Err (spot BadText at)
+refused_is at m s allowed = rw allowed refl
+
+pub few_frames : (s : State) (context : Context) (n : ℕ) → context_of s ≡ context → n ≡ length context.names → n < 64 → length s.frames < 64
+few_frames s context n e is few = omega (arith, is, few, length-map s.frames (λ (f : Frame). f.name), ap (λ (c : Context). length c.names) e)
+
+pub not_rooted : (context : Context) (opening : Opening) (slash : Bool) → is_allowed_at context (opened_as opening slash) ≡ not context.rooted
+not_rooted context opening true = refl
+not_rooted context opening false = refl

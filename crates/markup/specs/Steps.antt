@@ -16,13 +16,3 @@ taken at m s = if is_allowed_at (context_of s) m then Ok (changed at m s) else E
 -- the item at the start is taken, or stops the reader
 abbrev pub step_at : ℕ → List ℕ → State → Result State Spot
 step_at total bytes s = step total (record { left = length bytes; opening = opens bytes; item = (item_at bytes).0 }) s
-
--- a call left this state, or stopped as the reading does
-abbrev pub BecomesOr : Result (Unit {0}) Stop → State → Result State Spot → Type 0
-BecomesOr (Ok done) new reading = reading ≡ Ok new
-BecomesOr (Err stop) new reading = Fails stop reading
-
--- a call took the item at the start of the bytes and answered what follows it, or stopped
-abbrev pub StepsOr : Result (Bor (List ℕ)) Stop → State → ℕ → List ℕ → State → Type 0
-StepsOr (Ok after) new total bytes old = (step_at total bytes old ≡ Ok new) × (after.now ≡ (item_at bytes).1)
-StepsOr (Err stop) new total bytes old = Fails stop (step_at total bytes old)

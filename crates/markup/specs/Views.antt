@@ -1,18 +1,19 @@
 -- What the values that code holds stand for.
-use Rattle.std.specs.Prelude.{ℕ, Bool, not, ◌==◌, ◌&&◌, List, Option, Some, None, encode_utf8, string_bytes, if◌then◌else◌}
+use Rattle.std.specs.Prelude.{ℕ, Bool, not, ◌==◌, ◌&&◌, List, map, Option, Some, None, encode_utf8, string_bytes, if◌then◌else◌}
 use Rattle.std.specs.Char.{is_ascii}
 use Rattle.std.specs.Str.{is_utf8}
 use Rattle.std.specs.List.{list_all}
 use Rattle.markup_rules.specs.Bytes.{is_literal}
-use Rattle.markup.specs.declared.attributes.Attribute.{Attribute}
+use Rattle.markup.specs.declared.tag.Attribute.{Attribute}
 use Rattle.markup_rules.specs.Reading as rules
 use Rattle.markup_rules.specs.Reading.{comment, instruction, declaration, tag, broken, unended, data_between, data_to_end}
 use Rattle.markup.specs.declared.items.Item.{Item}
 use Rattle.markup.specs.declared.items.Item.TheVariants.{Comment, Instruction, Declaration, Tag, Broken, Unended, DataBetween, DataToEnd}
-use Rattle.markup_rules.specs.Reading.{start, empty, finish, aside, doctype, content, bad}
+use Rattle.markup_rules.specs.Reading.{finish, aside, doctype, content, bad}
 use Rattle.markup.specs.declared.markup.Opening.{Opening}
 use Rattle.markup.specs.declared.markup.Markup.{Markup}
-use Rattle.markup.specs.declared.markup.Markup.TheVariants.{Start, Empty, Finish, Aside, Doctype, Content, Bad}
+use Rattle.markup.specs.declared.markup.Markup.TheVariants.{Finish, Aside, Doctype, Content, Bad}
+use Rattle.markup.specs.Openings.{opened_as}
 use Rattle.markup.specs.declared.text.Piece.{Piece}
 use Rattle.markup.specs.declared.text.Piece.TheVariants.{Run, Character}
 use Rattle.markup.specs.declared.text.Text.{Text}
@@ -52,12 +53,11 @@ item_view Unended = unended
 item_view (DataBetween bytes) = data_between bytes.now
 item_view (DataToEnd bytes) = data_to_end bytes.now
 
-abbrev pub opening_view : Opening → rules.Opening
-opening_view o = record { name = o.name; attributes = o.attributes }
+-- an opening with the attributes that were gathered, and what follows it
+abbrev pub opening_view : List Attribute → Opening → rules.Markup × List ℕ
+opening_view kept o = (opened_as (record { name = o.name.now; attributes = map attribute_view kept }) o.has_slash, o.rest.now)
 
 abbrev pub markup_view : Markup → rules.Markup
-markup_view (Start opening) = start (opening_view opening)
-markup_view (Empty opening) = empty (opening_view opening)
 markup_view (Finish name) = finish name.now
 markup_view Aside = aside
 markup_view Doctype = doctype

@@ -14,11 +14,11 @@ use crate::bytes::{after_blanks, split_unquoted, starts_blank};
 use crate::content::content_of;
 use crate::names::name_at;
 use crate::searches::index_of;
+use crate::tag::{Attribute, is_same};
 use crate::text::Text;
-use basics::{Name, NoMemory, Seq};
+use basics::{Name, NoMemory};
 use std::alloc::Global;
 use std::collections::BTreeSet;
-use std::mem;
 
 /// What follows the blanks at the start, one at least.
 #[tactic(auto, unfolding(markup_rules::specs::Reading::blank_at))]
@@ -125,13 +125,6 @@ fn label_at(bytes: &[u8]) -> Option<(&str, &[u8])>
     Some((name, after_blanks(rest)))
 }
 
-/// An attribute as it stands in a tag: its name, and what its value means.
-#[derive(Drop)]
-pub(crate) struct Attribute<'a> {
-    name: &'a str,
-    value: Text<'a>,
-}
-
 /// The attribute at the start, after a blank at least, and what follows it.
 #[tactic(auto, unfolding(markup_rules::specs::Reading::attribute_at))]
 fn attribute_at(alloc: Global, bytes: &[u8]) -> Result<Option<(Attribute<'_>, &[u8])>, NoMemory>
@@ -147,11 +140,11 @@ fn attribute_at(alloc: Global, bytes: &[u8]) -> Result<Option<(Attribute<'_>, &[
 }
 
 /// Whether an attribute of this name is among these.
-fn has_name(attributes: &[(Name, Name)], name: &str) -> bool
-    ensures { result ≡ list_any (bytes_eq name.now) (map (λ a. a.0) attributes.now) }
+fn has_name(attributes: &[Attribute<'_>], name: &str) -> bool
+    ensures { result ≡ list_any (bytes_eq name.now) (names_of (map attribute_view attributes.now)) }
 {
-    for (key, _) in attributes {
-        if name == key.as_str() {
+    for attribute in attributes {
+        if is_same(name, attribute.name) {
             return true;
         }
     }
@@ -165,20 +158,24 @@ const FEW: usize = 16;
 type Names = Option<BTreeSet<Name>>;
 
 /// The names of some attributes.
-fn names_of(alloc: Global, kept: &[(Name, Name)]) -> Result<BTreeSet<Name>, NoMemory>
-    ensures { IfOk result (λ names. HasNames (Some names) (names_of kept.now)) }
+fn names_of(alloc: Global, kept: &[Attribute<'_>]) -> Result<BTreeSet<Name>, NoMemory>
+    ensures { IfOk result (λ names. HasNames (Some names) (names_of (map attribute_view kept.now))) }
 {
     let mut names = BTreeSet::new(alloc);
-    for (name, _) in kept {
-        names.insert(name.try_copy(alloc)?)?;
+    for attribute in kept {
+        names.insert(Name::from_str(alloc, attribute.name)?)?;
     }
     Ok(names)
 }
 
 /// Sees to it that the names are looked up as soon as there are many.
-fn look_up_many(alloc: Global, kept: &[(Name, Name)], names: &mut Names) -> Result<(), NoMemory>
-    requires { HasNames names.old (names_of kept.now) }
-    ensures { OnOk result (HasNames names.new (names_of kept.now)) }
+fn look_up_many(
+    alloc: Global,
+    kept: &[Attribute<'_>],
+    names: &mut Names,
+) -> Result<(), NoMemory>
+    requires { HasNames names.old (names_of (map attribute_view kept.now)) }
+    ensures { OnOk result (HasNames names.new (names_of (map attribute_view kept.now))) }
 {
     if names.is_none() && kept.len() >= FEW {
         *names = Some(names_of(alloc, kept)?);
@@ -189,53 +186,36 @@ fn look_up_many(alloc: Global, kept: &[(Name, Name)], names: &mut Names) -> Resu
 /// Whether none of the attributes kept so far has this name, which counts as kept from now on.
 fn is_first(
     alloc: Global,
-    kept: &[(Name, Name)],
+    kept: &[Attribute<'_>],
     names: &mut Names,
-    name: &Name,
+    name: &str,
 ) -> Result<bool, NoMemory>
-    requires { HasNames names.old (names_of kept.now) }
-    ensures first { IfOk result (λ first. first ≡ not (list_any (bytes_eq name.now) (names_of kept.now))) }
-    ensures names { IfOk result (λ first. HasNames names.new (if first then names_of kept.now ++ name.now ∷ [] else names_of kept.now)) }
+    requires { HasNames names.old (names_of (map attribute_view kept.now)) }
+    ensures first { IfOk result (λ first. first ≡ not (list_any (bytes_eq name.now) (names_of (map attribute_view kept.now)))) }
+    ensures names { IfOk result (λ first. HasNames names.new (if first then names_of (map attribute_view kept.now) ++ name.now ∷ [] else names_of (map attribute_view kept.now))) }
 {
     match names {
-        Some(names) => Ok(names.insert(name.try_copy(alloc)?)?),
-        None => Ok(!has_name(kept, name.as_str())),
+        Some(names) => Ok(names.insert(Name::from_str(alloc, name)?)?),
+        None => Ok(!has_name(kept, name)),
     }
 }
 
 /// Adds an attribute, unless one of its name is there.
-pub(crate) fn push_first(
+fn push_first<'a>(
     alloc: Global,
-    kept: &mut Vec<(Name, Name)>,
+    kept: &mut Vec<Attribute<'a>>,
     names: &mut Names,
-    attribute: Attribute<'_>,
+    attribute: Attribute<'a>,
 ) -> Result<(), NoMemory>
-    requires { HasNames names.old (names_of kept.old.items) }
-    ensures kept { OnOk result (kept.new.items ≡ with_attribute (attribute_view attribute.entry) kept.old.items) }
-    ensures names { OnOk result (HasNames names.new (names_of kept.new.items)) }
+    requires { HasNames names.old (names_of (map attribute_view kept.old.items)) }
+    ensures kept { OnOk result (map attribute_view kept.new.items ≡ with_attribute (attribute_view attribute.entry) (map attribute_view kept.old.items)) }
+    ensures names { OnOk result (HasNames names.new (names_of (map attribute_view kept.new.items))) }
 {
     look_up_many(alloc, kept.as_slice(), names)?;
-    let name = Name::from_str(alloc, attribute.name)?;
-    if !is_first(alloc, kept.as_slice(), names, &name)? {
-        return Ok(());
+    if is_first(alloc, kept.as_slice(), names, attribute.name)? {
+        kept.push(attribute)?;
     }
-    let value = Name::from_str(alloc, attribute.value.as_str())?;
-    kept.push((name, value))?;
     Ok(())
-}
-
-/// The same attributes, which take no more memory than they need. The room that a few had is left.
-fn take_fitted(alloc: Global, kept: &mut Vec<(Name, Name)>) -> Result<Seq<(Name, Name)>, NoMemory>
-    ensures { IfOk result (λ taken. taken ≡ kept.old.items) }
-{
-    if kept.len() > FEW {
-        let mut items = mem::replace(kept, Vec::new(alloc));
-        items.shrink_to_fit();
-        return Ok(Seq::from_vec(items));
-    }
-    let mut items = Vec::with_capacity(alloc, kept.len())?;
-    items.append(kept)?;
-    Ok(Seq::from_vec(items))
 }
 
 /// Whether a slash stands before the `>` at the start, and what follows it: blanks come first. None where an
@@ -251,34 +231,21 @@ fn end_at(bytes: &[u8]) -> Option<(bool, &[u8])>
     }
 }
 
-/// The attributes at the start, of those with one name the first; whether a slash stands after them, and
-/// what follows the end of their tag.
-#[derive(Drop)]
-pub(crate) struct Attributes<'a> {
-    pub(crate) kept: Seq<(Name, Name)>,
-    pub(crate) has_slash: bool,
-    pub(crate) rest: &'a [u8],
-}
-
-/// The attributes at the start, up to the end of their tag. They are gathered in `room`, whatever was in it.
+/// Gathers in `room`, whatever was in it, the attributes at the start, of those with one name the first. Whether a slash
+/// stands after them, and what follows the end of their tag.
 pub(crate) fn attributes_to_end<'a>(
     alloc: Global,
-    room: &mut Vec<(Name, Name)>,
+    room: &mut Vec<Attribute<'a>>,
     bytes: &'a [u8],
-) -> Result<Option<Attributes<'a>>, NoMemory>
-    ensures { IfOk result (λ found. Agrees (λ a. ((a.kept, a.has_slash), a.rest.now)) found (attributes_to_end bytes.now)) }
+) -> Result<Option<(bool, &'a [u8])>, NoMemory>
+    ensures { IfOk result (λ found. Agrees (λ end. ((map attribute_view room.new.items, end.0), end.1.now)) found (attributes_to_end bytes.now)) }
 {
     let mut names = None;
     let mut rest = bytes;
     room.clear();
     loop {
-        if let Some((has_slash, rest)) = end_at(rest) {
-            let kept = take_fitted(alloc, room)?;
-            return Ok(Some(Attributes {
-                kept,
-                has_slash,
-                rest,
-            }));
+        if let Some(end) = end_at(rest) {
+            return Ok(Some(end));
         }
         let Some((attribute, after)) = attribute_at(alloc, rest)? else {
             return Ok(None);

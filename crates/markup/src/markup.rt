@@ -3,7 +3,7 @@ ghost use Rattle.markup_rules.specs.Reading as rules;
 ghost use Rattle.markup_rules.specs.Bytes.{starts_name};
 ghost use Rattle.markup_rules.specs.Reading.{bad};
 ghost use Rattle.markup.specs.Openings.{IsNoOpening, opening_at};
-ghost use Rattle.markup.specs.Views.{item_view, markup_view};
+ghost use Rattle.markup.specs.Views.{item_view, markup_view, opening_view};
 ghost use Rattle.basics.specs.Optional.{Agrees};
 
 use crate::attributes::attributes_to_end;
@@ -12,24 +12,23 @@ use crate::content::content_of;
 use crate::items::Item;
 use crate::names::name_at;
 use crate::searches::{begins, first_index};
+use crate::tag::Attribute;
 use crate::text::Text;
-use basics::{Name, NoMemory, Seq};
+use basics::NoMemory;
 use std::alloc::Global;
 
-/// The name and the attributes of an element.
+/// The start of an element but for its attributes: its name, whether a slash stands at the end of its tag, and what
+/// follows that.
 #[derive(Drop)]
-pub(crate) struct Opening {
-    pub(crate) name: Name,
-    pub(crate) attributes: Seq<(Name, Name)>,
+pub(crate) struct Opening<'t> {
+    pub(crate) name: &'t str,
+    pub(crate) has_slash: bool,
+    pub(crate) rest: &'t [u8],
 }
 
-/// What an item is, if it is of a right form.
+/// What an item is that starts no element, if it is of a right form.
 #[derive(Drop)]
 pub(crate) enum Markup<'a> {
-    /// The start of an element.
-    Start(Opening),
-    /// An element without anything in it.
-    Empty(Opening),
     /// The end of an element of this name.
     Finish(&'a str),
     /// A comment or an instruction.
@@ -42,31 +41,27 @@ pub(crate) enum Markup<'a> {
     Bad,
 }
 
-/// The start of an element after its `<`, and what follows its `>`, or None where it is of no right form.
-/// Its attributes are gathered in `room`, whatever was in it.
+/// The start of an element after its `<`, or None where it is of no right form. Its attributes are gathered in `room`,
+/// whatever was in it.
 #[tactic(auto, unfolding(crate::specs::Openings::opening_at))]
-pub(crate) fn opening_at<'a>(
+pub(crate) fn opening_at<'t>(
     alloc: Global,
-    room: &mut Vec<(Name, Name)>,
-    bytes: &'a [u8],
-) -> Result<Option<(Markup<'a>, &'a [u8])>, NoMemory>
-    ensures { IfOk result (λ found. Agrees (λ o. (markup_view o.0, o.1.now)) found (opening_at bytes.now)) }
+    room: &mut Vec<Attribute<'t>>,
+    bytes: &'t [u8],
+) -> Result<Option<Opening<'t>>, NoMemory>
+    ensures { IfOk result (λ found. Agrees (opening_view room.new.items) found (opening_at bytes.now)) }
 {
     let Some((name, rest)) = name_at(bytes) else {
         return Ok(None);
     };
-    let Some(attributes) = attributes_to_end(alloc, room, rest)? else {
+    let Some((has_slash, rest)) = attributes_to_end(alloc, room, rest)? else {
         return Ok(None);
     };
-    let opening = Opening {
-        name: Name::from_str(alloc, name)?,
-        attributes: attributes.kept,
-    };
-    if attributes.has_slash {
-        Ok(Some((Markup::Empty(opening), attributes.rest)))
-    } else {
-        Ok(Some((Markup::Start(opening), attributes.rest)))
-    }
+    Ok(Some(Opening {
+        name,
+        has_slash,
+        rest,
+    }))
 }
 
 /// A tag that ends an element, after its `/`.

@@ -1,11 +1,11 @@
 use Rattle.markup.proofs.Clauses.{found_from, only_from, fault_from, faulty_from}
-use Rattle.markup.proofs.reader.read.Goals as goal
+use Rattle.markup.proofs.trees.read.Goals as goal
 
 pub returns : goal.returns
 returns c =
     let text = c.args.text.now in
-    let answer = c.read_items.result in
-    let exact = c.read_items.ensures in
+    let answer = c.read_tree.result in
+    let exact = c.read_tree.ensures in
     record {
       exact = exact;
       found = found_from text answer exact;
