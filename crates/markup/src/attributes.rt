@@ -169,11 +169,7 @@ fn names_of(alloc: Global, kept: &[Attribute<'_>]) -> Result<BTreeSet<Name>, NoM
 }
 
 /// Sees to it that the names are looked up as soon as there are many.
-fn look_up_many(
-    alloc: Global,
-    kept: &[Attribute<'_>],
-    names: &mut Names,
-) -> Result<(), NoMemory>
+fn look_up_many(alloc: Global, kept: &[Attribute<'_>], names: &mut Names) -> Result<(), NoMemory>
     requires { HasNames names.old (names_of (map attribute_view kept.now)) }
     ensures { OnOk result (HasNames names.new (names_of (map attribute_view kept.now))) }
 {
