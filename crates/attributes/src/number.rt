@@ -1,13 +1,12 @@
 ghost use Rattle.std.specs.Prelude.{◌≡◌};
 ghost use Rattle.basics.specs.Reading.{Gives};
-ghost use Rattle.markup.specs.Plain.{plain};
 ghost use Rattle.attributes.specs.Attributes.{decimal, decimal_in, number_kind, number_or_fault, optional_decimal, optional_whole, ranged, whole, whole_in};
 
 use crate::limits::Limits;
 use crate::text::{attribute_fault, needed};
 use basics::{Kind, Stop, stop_at};
 use fixpoint::{Fix, NumberFault, parse_fix16, parse_whole};
-use markup::Element;
+use markup::Tagged;
 use std::alloc::Global;
 
 /// What a fault of a number's text is called.
@@ -23,8 +22,13 @@ fn number_kind(why: NumberFault) -> Kind
 
 /// The decimal number that the text of an attribute writes.
 #[tactic(auto, unfolding(crate::specs::Attributes::decimal_in))]
-fn decimal_in(alloc: Global, name: &str, element: &Element, text: &str) -> Result<Fix<16>, Stop>
-    ensures { Gives (λ number. number) result (decimal_in name.now (plain element.now) text.now) }
+fn decimal_in<T: Tagged>(
+    alloc: Global,
+    name: &str,
+    element: &T,
+    text: &str,
+) -> Result<Fix<16>, Stop>
+    ensures { Gives (λ number. number) result (decimal_in name.now (T.tree element.now) text.now) }
 {
     match parse_fix16(text) {
         Ok(number) => Ok(number),
@@ -38,8 +42,8 @@ fn decimal_in(alloc: Global, name: &str, element: &Element, text: &str) -> Resul
 ///
 /// MissingAttribute, NotNumber or NumberRange, or want of memory.
 #[tactic(auto, unfolding(crate::specs::Attributes::decimal))]
-pub fn decimal(alloc: Global, name: &str, element: &Element) -> Result<Fix<16>, Stop>
-    ensures { Gives (λ number. number) result (decimal name.now (plain element.now)) }
+pub fn decimal<T: Tagged>(alloc: Global, name: &str, element: &T) -> Result<Fix<16>, Stop>
+    ensures { Gives (λ number. number) result (decimal name.now (T.tree element.now)) }
 {
     let text = needed(alloc, name, element)?;
     decimal_in(alloc, name, element, text)
@@ -51,12 +55,12 @@ pub fn decimal(alloc: Global, name: &str, element: &Element) -> Result<Fix<16>, 
 ///
 /// NotNumber or NumberRange, or want of memory.
 #[tactic(auto, unfolding(crate::specs::Attributes::optional_decimal))]
-pub fn optional_decimal(
+pub fn optional_decimal<T: Tagged>(
     alloc: Global,
     name: &str,
-    element: &Element,
+    element: &T,
 ) -> Result<Option<Fix<16>>, Stop>
-    ensures { Gives (λ number. number) result (optional_decimal name.now (plain element.now)) }
+    ensures { Gives (λ number. number) result (optional_decimal name.now (T.tree element.now)) }
 {
     match element.attribute(name) {
         Some(text) => Ok(Some(decimal_in(alloc, name, element, text)?)),
@@ -66,14 +70,14 @@ pub fn optional_decimal(
 
 /// The number of an attribute, where it is within limits.
 #[tactic(auto, unfolding(crate::specs::Attributes::ranged))]
-fn ranged(
+fn ranged<T: Tagged>(
     alloc: Global,
     limits: &Limits,
     name: &str,
-    element: &Element,
+    element: &T,
     number: i32,
 ) -> Result<i32, Stop>
-    ensures { Gives (λ number. number) result (ranged limits.now name.now (plain element.now) number) }
+    ensures { Gives (λ number. number) result (ranged limits.now name.now (T.tree element.now) number) }
 {
     if limits.least <= number && number <= limits.greatest {
         return Ok(number);
@@ -84,14 +88,14 @@ fn ranged(
 
 /// The whole number within limits that the text of an attribute writes.
 #[tactic(auto, unfolding(crate::specs::Attributes::whole_in))]
-fn whole_in(
+fn whole_in<T: Tagged>(
     alloc: Global,
     limits: &Limits,
     name: &str,
-    element: &Element,
+    element: &T,
     text: &str,
 ) -> Result<i32, Stop>
-    ensures { Gives (λ number. number) result (whole_in limits.now name.now (plain element.now) text.now) }
+    ensures { Gives (λ number. number) result (whole_in limits.now name.now (T.tree element.now) text.now) }
 {
     match parse_whole(text) {
         Ok(number) => ranged(alloc, limits, name, element, number),
@@ -106,8 +110,13 @@ fn whole_in(
 /// MissingAttribute, NotNumber, NotWhole or NumberRange; the kind of the limits, with the number as the value that was
 /// met; or want of memory.
 #[tactic(auto, unfolding(crate::specs::Attributes::whole))]
-pub fn whole(alloc: Global, limits: &Limits, name: &str, element: &Element) -> Result<i32, Stop>
-    ensures { Gives (λ number. number) result (whole limits.now name.now (plain element.now)) }
+pub fn whole<T: Tagged>(
+    alloc: Global,
+    limits: &Limits,
+    name: &str,
+    element: &T,
+) -> Result<i32, Stop>
+    ensures { Gives (λ number. number) result (whole limits.now name.now (T.tree element.now)) }
 {
     let text = needed(alloc, name, element)?;
     whole_in(alloc, limits, name, element, text)
@@ -120,13 +129,13 @@ pub fn whole(alloc: Global, limits: &Limits, name: &str, element: &Element) -> R
 /// NotNumber, NotWhole or NumberRange; the kind of the limits, with the number as the value that was met; or want of
 /// memory.
 #[tactic(auto, unfolding(crate::specs::Attributes::optional_whole))]
-pub fn optional_whole(
+pub fn optional_whole<T: Tagged>(
     alloc: Global,
     limits: &Limits,
     name: &str,
-    element: &Element,
+    element: &T,
 ) -> Result<Option<i32>, Stop>
-    ensures { Gives (λ number. number) result (optional_whole limits.now name.now (plain element.now)) }
+    ensures { Gives (λ number. number) result (optional_whole limits.now name.now (T.tree element.now)) }
 {
     match element.attribute(name) {
         Some(text) => Ok(Some(whole_in(alloc, limits, name, element, text)?)),

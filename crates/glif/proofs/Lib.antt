@@ -1,5 +1,10 @@
+mod Alone
 mod Hexadecimal
+mod Gathering
+mod Keeping
+mod Opening
 mod Outside
+mod Passing
 mod PrintedDrawings
 mod PrintedNumbers
 mod PrintedPoints

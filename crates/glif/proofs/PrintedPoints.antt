@@ -5,7 +5,7 @@ use Rattle.std.proofs.lemmas.Bool.{cond-true, and_from, le-leb}
 use Rattle.std.proofs.lemmas.Int.{ints}
 use Rattle.std.proofs.lemmas.List.Elements.{All-head, All-tail}
 use Rattle.fixpoint.specs.declared.decimal.NumberFault.{NumberFault}
-use Rattle.markup_rules.specs.Tree.{Tree, node, no_trees, attribute_of, children_of, is_named}
+use Rattle.markup_rules.specs.Tree.{Tree, node, no_trees, at_of, attribute_of, children_of, is_named}
 use Rattle.markup_rules.specs.Syntax.{tag_then, children_from}
 use Rattle.basics.specs.Reading.{◌>>=◌, each}
 use Rattle.glif.specs.declared.shape.Point.{Point}
@@ -32,7 +32,7 @@ ranged_within limits name tree n low high =
 pub whole_reads : (limits : Limits) (name : List ℕ) (tree : Tree) (n : Number) → IsNumber n → limits.least ≤ℤ value_of n → value_of n ≤ℤ limits.greatest → whole_in limits name tree (number_text n) ≡ Ok (value_of n)
 unfolding whole_in
 whole_reads limits name tree n is low high =
-    ap (λ (r : Result ℤ NumberFault). number_or_fault name tree r >>= ranged limits name tree) (number_reads n is) ∙ ranged_within limits name tree (value_of n) low high
+    ap (λ (r : Result ℤ NumberFault). number_or_fault name (at_of tree) r >>= ranged limits name tree) (number_reads n is) ∙ ranged_within limits name tree (value_of n) low high
 
 coordinate_reads : (name : List ℕ) (tree : Tree) (n : Number) → IsNumber n → attribute_of name tree ≡ Some (number_text n) → negsuc 16383 ≤ℤ value_of n → value_of n ≤ℤ pos 16383 → coordinate name tree ≡ Ok (value_of n)
 unfolding coordinate whole needed

@@ -10,7 +10,7 @@ use Rattle.std.proofs.lemmas.List.Folds.{list_any_at}
 use Rattle.std.proofs.lemmas.List.Quantifiers.{all_pairs_push}
 use Rattle.basics.specs.Reading.{each, in_turn}
 use Rattle.basics.specs.declared.fault.Spot.{Spot}
-use Rattle.markup_rules.specs.Tree.{Tree, attribute_of, children_of, is_named}
+use Rattle.markup_rules.specs.Tree.{Tree, at_of, attribute_of, children_of, is_named}
 use Rattle.glif.specs.declared.shape.Component.{Component}
 use Rattle.glif.specs.declared.shape.Drawing.{Drawing}
 use Rattle.glif.specs.declared.shape.Point.{Point}
@@ -24,6 +24,8 @@ use Rattle.glif.specs.Numbers.{advance_widths, coordinate, coordinates, offset, 
 use Rattle.glif.specs.Components.{component_of, matrix}
 use Rattle.glif.specs.Contours.{closed, contour_of, ends_on, is_passed_over, line_after_off, lined, on_by, point_elements, point_of, points_of, starts_with_move, type_of}
 use Rattle.glif.specs.Glyphs.{advance_seen, child_of, code_by, code_of, drawing_of, drawn, few, format_of, is_code, is_hexadecimal, no_shapes, nothing_seen, outline_of, outline_seen, shape_of, with_code, with_component, with_contour}
+use Rattle.markup_rules.specs.Outcome.{outcome}
+use Rattle.glif.specs.Texts.{drawing_of_text}
 use Rattle.glif.specs.Limits.{AreDistinct, IsCodePoint, IsContourWithin, IsOffsetWithin, IsPointWithin, IsWithinLimits}
 
 -- ---- numbers
@@ -56,7 +58,7 @@ point_ok first tree =
     chosen IsPointWithin (is_named (codes "point") tree) _ _
     (λ _. then_ok (IsWithin coordinates) IsPointWithin (coordinate (codes "x") tree) _ (coordinate_ok (codes "x") tree)
     (λ x across. then_ok (IsWithin coordinates) IsPointWithin (coordinate (codes "y") tree) _ (coordinate_ok (codes "y") tree)
-    (λ y up. after_any IsPointWithin (on_by first tree (type_of tree)) _
+    (λ y up. after_any IsPointWithin (on_by first (at_of tree) (type_of tree)) _
     (λ on. record { least_x = across.least; greatest_x = across.greatest; least_y = up.least; greatest_y = up.greatest }))))
     (λ _. tt)
 
@@ -167,15 +169,15 @@ both : (a b : Bool) → (a && b) ≡ true → b ≡ true
 both true b is = is
 both false b is = cc
 
-code_by_ok : (tree : Tree) (text : Option (List ℕ)) → IfOk (code_by tree text) IsCodePoint
-code_by_ok tree None = tt
-code_by_ok tree (Some text) =
+code_by_ok : (at : ℕ) (text : Option (List ℕ)) → IfOk (code_by at text) IsCodePoint
+code_by_ok at None = tt
+code_by_ok at (Some text) =
     chosen IsCodePoint (is_hexadecimal text && is_code (digits_value 16 text)) _ _
     (λ tested. code_point (digits_value 16 text) (both (is_hexadecimal text) (is_code (digits_value 16 text)) tested)) (λ _. tt)
 
 code_ok : (tree : Tree) → IfOk (code_of tree) IsCodePoint
 unfolding code_of
-code_ok tree = code_by_ok tree (attribute_of (codes "hex") tree)
+code_ok tree = code_by_ok (at_of tree) (attribute_of (codes "hex") tree)
 
 -- code points that stand once each
 record AreCodePoints (points : List ℕ) : Type 0 where
@@ -262,3 +264,11 @@ drawing_ok tree =
 pub drawing_within : (tree : Tree) (drawing : Drawing) → drawing_of tree ≡ Ok drawing → IsDrawnWithin drawing
 drawing_within tree drawing read =
     let P : Result Drawing Spot → Type 0 = λ r. IfOk r IsDrawnWithin in subst P read (drawing_ok tree)
+
+drawing_text_ok : (text : List ℕ) → IfOk (drawing_of_text text) IsDrawnWithin
+drawing_text_ok text = after_any IsDrawnWithin (outcome text) drawing_of drawing_ok
+
+-- and so is that of a text
+pub text_within : (text : List ℕ) (drawing : Drawing) → drawing_of_text text ≡ Ok drawing → IsDrawnWithin drawing
+text_within text drawing read =
+    let P : Result Drawing Spot → Type 0 = λ r. IfOk r IsDrawnWithin in subst P read (drawing_text_ok text)

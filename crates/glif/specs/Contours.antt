@@ -6,9 +6,9 @@ use Rattle.basics.specs.Reading.{◌>>=◌, each, spot_of}
 use Rattle.basics.specs.declared.kinds.Kind.TheVariants.{NotGlif, Curve, OpenContour, LineAfterOff, TooManyPoints}
 use Rattle.basics.specs.declared.fault.Spot.{Spot}
 use Rattle.glif.specs.declared.shape.Point.{Point}
-use Rattle.glif.specs.declared.contour.PointType.{PointType}
-use Rattle.glif.specs.declared.contour.PointType.TheVariants.{Off, Line, Quadratic, Cubic, Move, Unknown}
-use Rattle.attributes.specs.Attributes.{fault}
+use Rattle.glif.specs.declared.point.PointType.{PointType}
+use Rattle.glif.specs.declared.point.PointType.TheVariants.{Off, Line, Quadratic, Cubic, Move, Unknown}
+use Rattle.attributes.specs.Attributes.{fault, fault_at}
 use Rattle.glif.specs.Numbers.{coordinate}
 
 -- ---- points
@@ -35,14 +35,14 @@ is_line Line = true
 is_line _ = false
 
 -- whether a point of this type is on the curve; a move may stand first, and makes an open contour
-abbrev pub on_by : Bool → Tree → PointType → Result Bool Spot
-on_by first tree Off = Ok false
-on_by first tree Line = Ok true
-on_by first tree Quadratic = Ok true
-on_by first tree Cubic = fault Curve tree
-on_by true tree Move = Ok true
-on_by false tree Move = fault NotGlif tree
-on_by first tree Unknown = fault NotGlif tree
+abbrev pub on_by : Bool → ℕ → PointType → Result Bool Spot
+on_by first at Off = Ok false
+on_by first at Line = Ok true
+on_by first at Quadratic = Ok true
+on_by first at Cubic = fault_at Curve [] at
+on_by true at Move = Ok true
+on_by false at Move = fault_at NotGlif [] at
+on_by first at Unknown = fault_at NotGlif [] at
 
 -- the first point of a contour, or another one
 unfoldable pub point_of : Bool → Tree → Result Point Spot
@@ -50,7 +50,7 @@ point_of first tree =
     if is_named (codes "point") tree then (do
       x ← coordinate (codes "x") tree
       y ← coordinate (codes "y") tree
-      on ← on_by first tree (type_of tree)
+      on ← on_by first (at_of tree) (type_of tree)
       Ok (record { x = x; y = y; on = on })) else fault NotGlif tree
 
 abbrev pub points_of : List Tree → Result (List Point) Spot

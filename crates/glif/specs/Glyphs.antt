@@ -15,7 +15,7 @@ use Rattle.glif.specs.declared.shape.Drawing.{Drawing}
 use Rattle.glif.specs.declared.shape.Point.{Point}
 use Rattle.glif.specs.declared.outline.Shapes.{Shapes}
 use Rattle.glif.specs.declared.glyph.Seen.{Seen}
-use Rattle.attributes.specs.Attributes.{fault, needed}
+use Rattle.attributes.specs.Attributes.{fault, fault_at, needed}
 use Rattle.glif.specs.Numbers.{width}
 use Rattle.glif.specs.Components.{component_of}
 use Rattle.glif.specs.Contours.{contour_of}
@@ -58,12 +58,12 @@ is_code n = nat_le n 0x10FFFF && (not (nat_le 0xD800 n && nat_le n 0xDFFF) && no
 abbrev pub is_hexadecimal : List ℕ → Bool
 is_hexadecimal text = nat_lt 0 (length text) && (nat_le (length text) 6 && list_all is_ascii_hexdigit text)
 
-abbrev pub code_by : Tree → Option (List ℕ) → Result ℕ Spot
-code_by tree None = fault BadCode tree
-code_by tree (Some text) = if is_hexadecimal text && is_code (digits_value 16 text) then Ok (digits_value 16 text) else fault BadCode tree
+abbrev pub code_by : ℕ → Option (List ℕ) → Result ℕ Spot
+code_by at None = fault_at BadCode [] at
+code_by at (Some text) = if is_hexadecimal text && is_code (digits_value 16 text) then Ok (digits_value 16 text) else fault_at BadCode [] at
 
 unfoldable pub code_of : Tree → Result ℕ Spot
-code_of tree = code_by tree (attribute_of (codes "hex") tree)
+code_of tree = code_by (at_of tree) (attribute_of (codes "hex") tree)
 
 -- a code point that stands twice is kept once, where it stands first
 abbrev pub with_code : List ℕ → ℕ → List ℕ

@@ -1,9 +1,12 @@
 pub mod Components
 pub mod Contours
 pub mod FirstOutside
+pub mod Gathered
 pub mod Glyphs
 pub mod Limits
 pub mod Numbers
+pub mod Opened
+pub mod Parts
 pub mod Printed
 pub mod Shapes
 pub mod Texts

@@ -3,12 +3,11 @@ ghost use Rattle.std.specs.Char.{is_ascii_hexdigit};
 ghost use Rattle.std.specs.List.{list_all};
 ghost use Rattle.std.specs.Str.Parse.{digits_value};
 ghost use Rattle.basics.specs.Reading.{Gives};
-ghost use Rattle.markup.specs.Plain.{plain};
 ghost use Rattle.glif.specs.Glyphs.{code_of, is_code, is_hexadecimal, with_code};
 
 use attributes::fault;
 use basics::{Kind, NoMemory, Seq, Stop};
-use markup::Element;
+use markup::Tagged;
 use std::alloc::Global;
 use std::collections::BTreeSet;
 use std::marker::Model;
@@ -104,8 +103,8 @@ fn code_in(text: &str) -> Option<u32>
 
 /// The code point of a `unicode`.
 #[tactic(auto, unfolding(crate::specs::Glyphs::code_of))]
-pub(crate) fn read_code(alloc: Global, element: &Element) -> Result<u32, Stop>
-    ensures { Gives (λ code. code) result (code_of (plain element.now)) }
+pub(crate) fn read_code<T: Tagged>(alloc: Global, element: &T) -> Result<u32, Stop>
+    ensures { Gives (λ code. code) result (code_of (T.tree element.now)) }
 {
     match element.attribute("hex").and_then(code_in) {
         Some(code) => Ok(code),

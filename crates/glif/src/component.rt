@@ -1,5 +1,4 @@
 ghost use Rattle.basics.specs.Reading.{Gives};
-ghost use Rattle.markup.specs.Plain.{plain};
 ghost use Rattle.glif.specs.Components.{component_of, matrix, scale};
 
 use crate::numbers::offset;
@@ -7,13 +6,13 @@ use crate::shape::Component;
 use attributes::{fault, needed, optional_decimal};
 use basics::{Kind, Name, Stop};
 use fixpoint::Fix;
-use markup::Element;
+use markup::Tagged;
 use std::alloc::Global;
 
 /// Tests that an attribute of the matrix is absent, or the wanted number when it is rounded to 16 binary places.
 #[tactic(auto, unfolding(crate::specs::Components::scale))]
-fn scale(alloc: Global, wanted: Fix<16>, name: &str, element: &Element) -> Result<(), Stop>
-    ensures { Gives (λ _. tt) result (scale wanted name.now (plain element.now)) }
+fn scale<T: Tagged>(alloc: Global, wanted: Fix<16>, name: &str, element: &T) -> Result<(), Stop>
+    ensures { Gives (λ _. tt) result (scale wanted name.now (T.tree element.now)) }
 {
     let number = optional_decimal(alloc, name, element)?.unwrap_or(wanted);
     if number != wanted {
@@ -24,8 +23,8 @@ fn scale(alloc: Global, wanted: Fix<16>, name: &str, element: &Element) -> Resul
 
 /// Tests that the component draws its base as it is, but moved.
 #[tactic(auto, unfolding(crate::specs::Components::matrix))]
-fn matrix(alloc: Global, element: &Element) -> Result<(), Stop>
-    ensures { Gives (λ _. tt) result (matrix (plain element.now)) }
+fn matrix<T: Tagged>(alloc: Global, element: &T) -> Result<(), Stop>
+    ensures { Gives (λ _. tt) result (matrix (T.tree element.now)) }
 {
     let (zero, one) = (Fix::from_raw(0), Fix::one());
     scale(alloc, one, "xScale", element)?;
@@ -36,8 +35,8 @@ fn matrix(alloc: Global, element: &Element) -> Result<(), Stop>
 
 /// A component.
 #[tactic(auto, unfolding(crate::specs::Components::component_of))]
-pub(crate) fn read_component(alloc: Global, element: &Element) -> Result<Component, Stop>
-    ensures { Gives (λ component. component) result (component_of (plain element.now)) }
+pub(crate) fn read_component<T: Tagged>(alloc: Global, element: &T) -> Result<Component, Stop>
+    ensures { Gives (λ component. component) result (component_of (T.tree element.now)) }
 {
     let base = needed(alloc, "base", element)?;
     matrix(alloc, element)?;

@@ -1,132 +1,52 @@
-ghost use Rattle.std.specs.Prelude.{◌≡◌, map, filter, codes};
+ghost use Rattle.std.specs.Prelude.{◌≡◌, ◌++◌, ◌∷◌, [], List, Ok, OnOk, if◌then◌else◌};
+ghost use Rattle.std.specs.Option.{option_or};
 ghost use Rattle.basics.specs.Reading.{Gives};
 ghost use Rattle.markup.specs.Plain.{plain};
-ghost use Rattle.markup_rules.specs.Tree.{is_named};
-ghost use Rattle.glif.specs.Contours.{closed, contour_of, ends_on, is_line, is_move, is_passed_over, line_after_off, lined, on_by, point_of, points_of, starts_with_move, type_of};
+ghost use Rattle.markup_rules.specs.Tree.{Tree, at_of, children_of};
+ghost use Rattle.glif.specs.Contours.{closed, contour_of, ends_on, line_after_off, points_of, type_of};
+ghost use Rattle.glif.specs.Gathered.{AreDrawn, IsContour, IsDrawn, is_passed, with_point};
 
+use crate::held::held;
 use crate::limits::CONTOUR_POINTS;
-use crate::numbers::coordinate;
+use crate::point::{PointType, read_point, type_of};
 use crate::shape::Point;
-use attributes::fault;
-use basics::{Kind, Seq, Stop, stop_at};
-use markup::Element;
+use basics::{Kind, NoMemory, Seq, Spot, Stop, stop_at};
+use markup::{Element, Tagged};
 use std::alloc::Global;
 
-/// What a point is to its contour, by its attribute `type` (UFO 3, "GLIF", "point").
+/// What the elements of a contour draw, where none of them is faulty.
+#[derive(Drop)]
+pub(crate) struct Drawn {
+    /// The point of each.
+    pub(crate) points: Seq<Point>,
+    /// Whether the first one is a `move`, which makes an open contour.
+    pub(crate) is_open: bool,
+    /// The offset of the first one, where it ends a straight line.
+    pub(crate) first_line: Option<u64>,
+    /// The offset of the first later one that ends a straight line from a point off the curve.
+    pub(crate) later_line: Option<u64>,
+}
+
+/// What a contour is by its elements `point`.
 #[derive(Clone, Copy)]
-pub(crate) enum PointType {
-    /// Off the curve: `offcurve`, or no type.
-    Off,
-    /// The end of a straight line: `line`.
-    Line,
-    /// The end of a quadratic curve: `qcurve`.
-    Quadratic,
-    /// The end of a cubic curve, which isn't read: `curve`.
-    Cubic,
-    /// The start of an open contour: `move`.
-    Move,
-    /// Another text.
-    Unknown,
+pub(crate) enum ContourKind {
+    /// There is none.
+    Empty,
+    /// There is one, a `move`, with which editors of old wrote an anchor.
+    Anchor,
+    /// There are others.
+    Full,
 }
 
-/// The type of a point.
-fn type_of(point: &Element) -> PointType
-    ensures { result ≡ type_of (plain point.now) }
-{
-    let Some(text) = point.attribute("type") else {
-        return PointType::Off;
-    };
-    if text == "offcurve" {
-        PointType::Off
-    } else if text == "line" {
-        PointType::Line
-    } else if text == "qcurve" {
-        PointType::Quadratic
-    } else if text == "curve" {
-        PointType::Cubic
-    } else if text == "move" {
-        PointType::Move
-    } else {
-        PointType::Unknown
-    }
-}
-
-/// Whether the point is of the type `move`.
-fn is_move(point: &Element) -> bool
-    ensures { result ≡ is_move (type_of (plain point.now)) }
-{
-    matches!(type_of(point), PointType::Move)
-}
-
-/// Whether the point ends a straight line.
-fn is_line(point: &Element) -> bool
-    ensures { result ≡ is_line (type_of (plain point.now)) }
-{
-    matches!(type_of(point), PointType::Line)
-}
-
-/// Whether a point of this type is on the curve. A `move` may stand first, which makes an open contour.
-fn is_on(
-    alloc: Global,
-    is_first: bool,
-    point: &Element,
-    point_type: PointType,
-) -> Result<bool, Stop>
-    ensures { Gives (λ on. on) result (on_by is_first (plain point.now) point_type) }
-{
-    match point_type {
-        PointType::Off => Ok(false),
-        PointType::Line => Ok(true),
-        PointType::Quadratic => Ok(true),
-        PointType::Cubic => Err(fault(alloc, Kind::Curve, point)),
-        PointType::Move => {
-            if is_first {
-                Ok(true)
-            } else {
-                Err(fault(alloc, Kind::NotGlif, point))
-            }
-        }
-        PointType::Unknown => Err(fault(alloc, Kind::NotGlif, point)),
-    }
-}
-
-/// The first point of a contour, or another one.
-#[tactic(auto, unfolding(crate::specs::Contours::point_of))]
-fn read_point(alloc: Global, is_first: bool, element: &Element) -> Result<Point, Stop>
-    ensures { Gives (λ point. point) result (point_of is_first (plain element.now)) }
-{
-    if !element.is_named("point") {
-        return Err(fault(alloc, Kind::NotGlif, element));
-    }
-    let x = coordinate(alloc, "x", element)?;
-    let y = coordinate(alloc, "y", element)?;
-    let on = is_on(alloc, is_first, element, type_of(element))?;
-    Ok(Point { x, y, on })
-}
-
-/// The points of a contour, whose elements these are.
-fn read_points(alloc: Global, elements: &[Element]) -> Result<Seq<Point>, Stop>
-    ensures { Gives (λ points. points) result (points_of (map plain elements.now)) }
-{
-    let [first, later @ ..] = elements else {
-        return Ok(Seq::new(alloc));
-    };
-    let mut points = Vec::with_capacity(alloc, elements.len())?;
-    points.push(read_point(alloc, true, first)?)?;
-    for element in later {
-        points.push(read_point(alloc, false, element)?)?;
-    }
-    Ok(Seq::from_vec(points))
-}
-
-/// Whether the first point is of the type `move`.
-fn starts_with_move(elements: &[Element]) -> bool
-    ensures { result ≡ starts_with_move (map plain elements.now) }
-{
-    match elements {
-        [first, ..] => is_move(first),
-        [] => false,
-    }
+/// What the elements of a contour have given so far.
+#[derive(Drop)]
+pub(crate) struct Contour {
+    /// What it is by its elements `point`.
+    pub(crate) kind: ContourKind,
+    /// What the elements before the first faulty one draw.
+    pub(crate) drawn: Drawn,
+    /// The first fault.
+    pub(crate) fault: Option<Spot>,
 }
 
 /// Whether the last point is on the curve, after which the first one follows.
@@ -139,83 +59,173 @@ fn ends_on(points: &[Point]) -> bool
     }
 }
 
-/// The offset of the first line that comes from a point off the curve, where `is_on` tells whether the point
-/// before is on it.
-fn line_after_off(is_on: bool, elements: &[Element], points: &[Point]) -> Option<u64>
-    ensures { result ≡ line_after_off is_on (map plain elements.now) points.now }
-{
-    let mut is_on = is_on;
-    for (index, element) in elements.iter().enumerate() {
-        let point = points.get(index)?;
-        if !is_on && is_line(element) {
-            return Some(element.offset());
+impl Drawn {
+    /// Nothing drawn.
+    fn new(alloc: Global) -> Drawn
+        ensures { IsDrawn result [] }
+    {
+        Drawn {
+            points: Seq::new(alloc),
+            is_open: false,
+            first_line: None,
+            later_line: None,
         }
-        is_on = point.on;
     }
-    None
+
+    /// The first later line where one more element follows, which ends a line of this offset or none.
+    fn later_line_with(&self, line: Option<u64>) -> Option<u64>
+        ensures { result ≡ (if ends_on self.now.points then self.now.later_line else option_or self.now.later_line line) }
+    {
+        if ends_on(self.points.as_slice()) {
+            self.later_line
+        } else {
+            self.later_line.or(line)
+        }
+    }
+
+    /// Adds the point of one more element, which has this type and offset.
+    fn push(&mut self, point_type: PointType, at: u64, point: Point) -> Result<(), NoMemory>
+        ensures { (trees : List Tree) (tree : Tree) → IsDrawn self.old trees → point_type ≡ type_of tree → at ≡ at_of tree → points_of (trees ++ tree ∷ []) ≡ Ok (self.old.points ++ point ∷ []) → OnOk result (IsDrawn self.new (trees ++ tree ∷ [])) }
+    {
+        let line = point_type.is_line().then_some(at);
+        if self.points.is_empty() {
+            self.is_open = point_type.is_move();
+            self.first_line = line;
+            return self.points.push(point);
+        }
+        self.later_line = self.later_line_with(line);
+        self.points.push(point)
+    }
+
+    /// The offset of the first line that comes from a point off the curve, where the last point stands before the
+    /// first.
+    fn line_after_off(&self) -> Option<u64>
+        ensures { (trees : List Tree) → IsDrawn self.now trees → result ≡ line_after_off (ends_on self.now.points) trees self.now.points }
+    {
+        if ends_on(self.points.as_slice()) {
+            self.later_line
+        } else {
+            self.first_line.or(self.later_line)
+        }
+    }
+
+    /// The points of the contour at this offset, where there are at most 1,024, the contour is closed, and no line
+    /// begins off the curve.
+    #[tactic(auto, unfolding(crate::specs::Contours::closed))]
+    fn closed(self, alloc: Global, at: u64) -> Result<Seq<Point>, Stop>
+        ensures { (contour : Tree) → at ≡ at_of contour → IsDrawn self (children_of contour) → Gives (λ points. points) result (closed contour self.points) }
+    {
+        let count = self.points.len();
+        if CONTOUR_POINTS < count {
+            let count = count as i64;
+            return Err(stop_at(alloc, Kind::TooManyPoints, "", at, count));
+        }
+        if self.is_open {
+            return Err(stop_at(alloc, Kind::OpenContour, "", at, 0));
+        }
+        match self.line_after_off() {
+            None => Ok(self.points),
+            Some(at) => Err(stop_at(alloc, Kind::LineAfterOff, "", at, 0)),
+        }
+    }
 }
 
-/// The points, where no line begins off the curve.
-fn lined(alloc: Global, points: Seq<Point>, offset: Option<u64>) -> Result<Seq<Point>, Stop>
-    ensures { Gives (λ points. points) result (lined points offset) }
-{
-    match offset {
-        None => Ok(points),
-        Some(at) => Err(stop_at(alloc, Kind::LineAfterOff, "", at, 0)),
-    }
-}
-
-/// The points of a contour, where there are at most 1,024, the contour is closed, and no line begins off the
-/// curve.
-#[tactic(auto, unfolding(crate::specs::Contours::closed))]
-fn closed(alloc: Global, contour: &Element, points: Seq<Point>) -> Result<Seq<Point>, Stop>
-    ensures { Gives (λ points. points) result (closed (plain contour.now) points) }
-{
-    let count = points.as_slice().len();
-    if CONTOUR_POINTS < count {
-        return Err(stop_at(
-            alloc,
-            Kind::TooManyPoints,
-            "",
-            contour.offset(),
-            count as i64,
-        ));
-    }
-    if starts_with_move(contour.children()) {
-        return Err(fault(alloc, Kind::OpenContour, contour));
-    }
-    let is_on = ends_on(points.as_slice());
-    let offset = line_after_off(is_on, contour.children(), points.as_slice());
-    lined(alloc, points, offset)
-}
-
-/// Whether a contour of these elements is passed over: without points, or with a single one of the type `move`.
-fn is_passed_over(elements: &[Element]) -> bool
-    ensures { result ≡ is_passed_over (filter (is_named (codes "point")) (map plain elements.now)) }
-{
-    let mut only: Option<&Element> = None;
-    for element in elements {
-        if element.is_named("point") {
-            if only.is_some() {
-                return false;
+impl ContourKind {
+    /// What the contour is with one more element `point`, of this type.
+    fn with_point(self, point_type: PointType) -> ContourKind
+        ensures { result ≡ with_point self point_type }
+    {
+        match self {
+            ContourKind::Empty => {
+                if point_type.is_move() {
+                    ContourKind::Anchor
+                } else {
+                    ContourKind::Full
+                }
             }
-            only = Some(element);
+            ContourKind::Anchor => ContourKind::Full,
+            ContourKind::Full => ContourKind::Full,
         }
     }
-    match only {
-        Some(point) => is_move(point),
-        None => true,
+
+    /// Whether such a contour is passed over unread.
+    fn is_passed(self) -> bool
+        ensures { result ≡ is_passed self }
+    {
+        !matches!(self, ContourKind::Full)
+    }
+}
+
+impl Contour {
+    /// No element has given anything.
+    pub(crate) fn new(alloc: Global) -> Contour
+        ensures { IsContour result [] }
+    {
+        Contour {
+            kind: ContourKind::Empty,
+            drawn: Drawn::new(alloc),
+            fault: None,
+        }
+    }
+
+    /// Draws one more element of this type, or keeps its fault. After a fault nothing is drawn any more.
+    fn draw<T: Tagged>(
+        &mut self,
+        alloc: Global,
+        element: &T,
+        point_type: PointType,
+    ) -> Result<(), NoMemory>
+        requires { point_type ≡ type_of (T.tree element.now) }
+        ensures drawn { (trees : List Tree) → AreDrawn self.old.fault self.old.drawn trees → OnOk result (AreDrawn self.new.fault self.new.drawn (trees ++ T.tree element.now ∷ [])) }
+        ensures kind { self.new.kind ≡ self.old.kind }
+    {
+        if self.fault.is_some() {
+            return Ok(());
+        }
+        let is_first = self.drawn.points.is_empty();
+        match held(read_point(alloc, is_first, element, point_type))? {
+            Ok(point) => self.drawn.push(point_type, element.offset(), point),
+            Err(spot) => {
+                self.fault = Some(spot);
+                Ok(())
+            }
+        }
+    }
+
+    /// Takes one more element of the contour.
+    pub(crate) fn take<T: Tagged>(&mut self, alloc: Global, element: &T) -> Result<(), NoMemory>
+        ensures { (trees : List Tree) → IsContour self.old trees → OnOk result (IsContour self.new (trees ++ T.tree element.now ∷ [])) }
+    {
+        let point_type = type_of(element);
+        if element.is_named("point") {
+            self.kind = self.kind.with_point(point_type);
+        }
+        self.draw(alloc, element, point_type)
+    }
+
+    /// The points of the contour at this offset, or nothing of one that is passed over.
+    #[tactic(auto, unfolding(crate::specs::Contours::contour_of))]
+    pub(crate) fn end(self, alloc: Global, at: u64) -> Result<Option<Seq<Point>>, Stop>
+        ensures { (contour : Tree) → at ≡ at_of contour → IsContour self (children_of contour) → Gives (λ points. points) result (contour_of contour) }
+    {
+        let Contour { kind, drawn, fault } = self;
+        if kind.is_passed() {
+            return Ok(None);
+        }
+        match fault {
+            None => Ok(Some(drawn.closed(alloc, at)?)),
+            Some(spot) => Err(Stop::At(spot)),
+        }
     }
 }
 
 /// The points of a contour, or nothing of one that is passed over.
-#[tactic(auto, unfolding(crate::specs::Contours::contour_of))]
 pub(crate) fn read_contour(alloc: Global, contour: &Element) -> Result<Option<Seq<Point>>, Stop>
     ensures { Gives (λ points. points) result (contour_of (plain contour.now)) }
 {
-    if is_passed_over(contour.children()) {
-        return Ok(None);
+    let mut seen = Contour::new(alloc);
+    for element in contour.children() {
+        seen.take(alloc, element)?;
     }
-    let points = read_points(alloc, contour.children())?;
-    Ok(Some(closed(alloc, contour, points)?))
+    seen.end(alloc, contour.offset())
 }

@@ -1,19 +1,22 @@
-ghost use Rattle.std.specs.Prelude.{◌≡◌, List, ℕ, map, codes, All, IfOk, option_map};
+ghost use Rattle.std.specs.Prelude.{◌≡◌, false, List, ℕ, map, codes, All, IfOk, option_map};
 ghost use Rattle.basics.specs.Reading.{Gives, in_turn};
 ghost use Rattle.markup_rules.specs.Tree.{attribute_of};
 ghost use Rattle.markup.specs.Plain.{plain};
-ghost use Rattle.glif.specs.Glyphs.{advance_seen, child_of, drawing_of, drawn, format_of, is_version, nothing_seen, outline_seen, version_of};
+ghost use Rattle.glif.specs.Glyphs.{advance_seen, child_of, drawing_of, drawn, format_of, is_version, nothing_seen, version_of};
+ghost use Rattle.glif.specs.Texts.{drawing_of_text};
+ghost use Rattle.glif.specs.Opened.{is_first_outline, opened};
 ghost use Rattle.glif.specs.Limits.{AreDistinct, IsCodePoint, IsOffsetWithin, IsWithinLimits};
 ghost use Rattle.glif.specs.declared.shape.Drawing.{Drawing};
 
 use crate::code::{Codes, read_code};
 use crate::numbers::width;
 use crate::outline::{Shapes, read_outline};
+use crate::part::read_drawing_text;
 use crate::shape::{Drawing, Outline};
 use attributes::{fault, needed};
 use basics::{Kind, Name, Stop, stop_at};
 use fixpoint::parse_whole;
-use markup::Element;
+use markup::{Element, Tagged};
 use std::alloc::Global;
 
 /// What the elements of a `glyph` have given so far.
@@ -29,7 +32,7 @@ pub(crate) struct Seen {
 
 impl Seen {
     /// No element has given anything.
-    fn new(alloc: Global) -> Seen
+    pub(crate) fn new(alloc: Global) -> Seen
         ensures { result ≡ nothing_seen }
     {
         Seen {
@@ -41,8 +44,8 @@ impl Seen {
 }
 
 /// What is seen with an `advance`, the first of which counts.
-fn read_advance(alloc: Global, mut seen: Seen, advance: &Element) -> Result<Seen, Stop>
-    ensures { Gives (λ seen. seen) result (advance_seen (plain advance.now) seen seen.width) }
+fn read_advance<T: Tagged>(alloc: Global, mut seen: Seen, advance: &T) -> Result<Seen, Stop>
+    ensures { Gives (λ seen. seen) result (advance_seen (T.tree advance.now) seen seen.width) }
 {
     if seen.width.is_none() {
         seen.width = Some(width(alloc, advance)?);
@@ -50,21 +53,15 @@ fn read_advance(alloc: Global, mut seen: Seen, advance: &Element) -> Result<Seen
     Ok(seen)
 }
 
-/// What is seen with an `outline`, of which there is one at most.
-fn read_shapes(alloc: Global, mut seen: Seen, outline: &Element) -> Result<Seen, Stop>
-    ensures { Gives (λ seen. seen) result (outline_seen (plain outline.now) seen seen.shapes) }
-{
-    if seen.shapes.is_some() {
-        return Err(fault(alloc, Kind::NotGlif, outline));
-    }
-    seen.shapes = Some(read_outline(alloc, outline)?);
-    Ok(seen)
-}
-
-/// What is seen with one more element of the glyph.
+/// What is seen with one more element of the glyph that is not its first `outline`.
 #[tactic(auto, unfolding(crate::specs::Glyphs::child_of))]
-fn read_child(alloc: Global, seen: Seen, element: &Element) -> Result<Seen, Stop>
-    ensures { Gives (λ seen. seen) result (child_of seen (plain element.now)) }
+pub(crate) fn read_other_child<T: Tagged>(
+    alloc: Global,
+    seen: Seen,
+    element: &T,
+) -> Result<Seen, Stop>
+    requires { is_first_outline seen (T.tree element.now) ≡ false }
+    ensures { Gives (λ seen. seen) result (child_of seen (T.tree element.now)) }
 {
     if element.is_named("advance") {
         read_advance(alloc, seen, element)
@@ -75,10 +72,29 @@ fn read_child(alloc: Global, seen: Seen, element: &Element) -> Result<Seen, Stop
             ..seen
         })
     } else if element.is_named("outline") {
-        read_shapes(alloc, seen, element)
+        Err(fault(alloc, Kind::NotGlif, element))
     } else {
         Ok(seen)
     }
+}
+
+/// Whether the element is the first `outline` of a glyph of which this was seen before.
+pub(crate) fn is_first_outline<T: Tagged>(seen: &Seen, element: &T) -> bool
+    ensures { result ≡ is_first_outline seen.now (T.tree element.now) }
+{
+    seen.shapes.is_none() && element.is_named("outline")
+}
+
+/// What is seen with one more element of the glyph.
+#[tactic(auto, using(crate::proofs::Opening::first_outline))]
+fn read_child(alloc: Global, mut seen: Seen, element: &Element) -> Result<Seen, Stop>
+    ensures { Gives (λ seen. seen) result (child_of seen (plain element.now)) }
+{
+    if is_first_outline(&seen, element) {
+        seen.shapes = Some(read_outline(alloc, element)?);
+        return Ok(seen);
+    }
+    read_other_child(alloc, seen, element)
 }
 
 /// What is seen of all elements of a glyph.
@@ -117,8 +133,8 @@ fn is_version(format: Option<&str>) -> bool
 
 /// Tests that the glyph is of a version of the format that is read.
 #[tactic(auto, unfolding(crate::specs::Glyphs::format_of))]
-fn check_format(alloc: Global, glyph: &Element) -> Result<(), Stop>
-    ensures { Gives (λ _. tt) result (format_of (plain glyph.now)) }
+fn check_format<T: Tagged>(alloc: Global, glyph: &T) -> Result<(), Stop>
+    ensures { Gives (λ _. tt) result (format_of (T.tree glyph.now)) }
 {
     let format = glyph.attribute("format");
     if is_version(format) {
@@ -129,7 +145,7 @@ fn check_format(alloc: Global, glyph: &Element) -> Result<(), Stop>
 }
 
 /// The drawing of a glyph of this name.
-fn drawn(alloc: Global, name: Name, seen: Seen) -> Drawing
+pub(crate) fn drawn(alloc: Global, name: Name, seen: Seen) -> Drawing
     ensures { result ≡ drawn name seen }
 {
     let Seen {
@@ -152,18 +168,26 @@ fn drawn(alloc: Global, name: Name, seen: Seen) -> Drawing
     }
 }
 
+/// The name that the tag of a glyph tells, where it is one of a version of the format that is read.
+#[tactic(auto, unfolding(crate::specs::Opened::opened))]
+pub(crate) fn open_glyph<T: Tagged>(alloc: Global, glyph: &T) -> Result<Name, Stop>
+    ensures { Gives (λ name. name) result (opened (T.tree glyph.now)) }
+{
+    if !glyph.is_named("glyph") {
+        return Err(fault(alloc, Kind::NotGlif, glyph));
+    }
+    check_format(alloc, glyph)?;
+    let name = needed(alloc, "name", glyph)?;
+    Ok(Name::from_str(alloc, name)?)
+}
+
 /// The drawing that a tree means.
-#[tactic(auto, unfolding(crate::specs::Glyphs::drawing_of))]
+#[tactic(auto, using(crate::proofs::Opening::drawing_by))]
 fn read_drawing(alloc: Global, tree: &Element) -> Result<Drawing, Stop>
     ensures { Gives (λ drawing. drawing) result (drawing_of (plain tree.now)) }
 {
-    if !tree.is_named("glyph") {
-        return Err(fault(alloc, Kind::NotGlif, tree));
-    }
-    check_format(alloc, tree)?;
-    let name = needed(alloc, "name", tree)?;
+    let name = open_glyph(alloc, tree)?;
     let seen = read_children(alloc, tree.children())?;
-    let name = Name::from_str(alloc, name)?;
     Ok(drawn(alloc, name, seen))
 }
 
@@ -221,4 +245,23 @@ pub fn read(alloc: Global, tree: &Element) -> Result<Drawing, Stop>
     ensures once { IfOk result (λ (drawing : Drawing). AreDistinct drawing.codes) }
 {
     read_drawing(alloc, tree)
+}
+
+/// Reads a drawing off the text of a GLIF, as [`markup::read`] and [`read`] do one after the other. No tree is made, and
+/// nothing is kept of what is passed over: it takes the memory of the drawing, and of one tag at a time.
+///
+/// # Errors
+///
+/// `Stop::NoMemory` where memory ran out, or else `Stop::At` with the fault of the text, or, where it has none, with the
+/// first fault of its tree.
+pub fn read_text(alloc: Global, text: &[u8]) -> Result<Drawing, Stop>
+    // Which drawing it is, and which fault.
+    ensures exact { Gives (λ drawing. drawing) result (drawing_of_text text.now) }
+    // What is read is within limits.
+    ensures limits { IfOk result (λ drawing. IsWithinLimits drawing.outline) }
+    ensures offsets { IfOk result (λ (drawing : Drawing). All IsOffsetWithin drawing.components) }
+    ensures codes { IfOk result (λ (drawing : Drawing). All IsCodePoint drawing.codes) }
+    ensures once { IfOk result (λ (drawing : Drawing). AreDistinct drawing.codes) }
+{
+    read_drawing_text(alloc, text)
 }

@@ -1,15 +1,16 @@
-ghost use Rattle.std.specs.Prelude.{◌≡◌};
+ghost use Rattle.std.specs.Prelude.{◌≡◌, codes, false, IfOk};
 ghost use Rattle.basics.specs.Reading.{Gives};
 ghost use Rattle.markup.specs.Plain.{plain};
-ghost use Rattle.glif.specs.Glyphs.{few, no_shapes, outline_of, shape_of};
+ghost use Rattle.markup_rules.specs.Tree.{Tree, at_of, is_named};
+ghost use Rattle.glif.specs.Glyphs.{few, no_shapes, outline_of, shape_of, with_contour};
 
 use crate::component::read_component;
 use crate::contour::read_contour;
 use crate::limits::{GLYPH_POINTS, point_count};
 use crate::shape::{Component, Point};
 use attributes::fault;
-use basics::{Kind, Seq, Stop, stop_at};
-use markup::Element;
+use basics::{Kind, NoMemory, Seq, Stop, stop_at};
+use markup::{Element, Tagged};
 use std::alloc::Global;
 
 /// What the elements of an `outline` draw, in their order.
@@ -31,33 +32,63 @@ impl Shapes {
     }
 }
 
-/// What is drawn with one more element of the outline.
-#[tactic(auto, unfolding(crate::specs::Glyphs::shape_of))]
-fn read_shape(alloc: Global, mut shapes: Shapes, element: &Element) -> Result<Shapes, Stop>
-    ensures { Gives (λ shapes. shapes) result (shape_of shapes (plain element.now)) }
-{
-    if element.is_named("contour") {
-        if let Some(points) = read_contour(alloc, element)? {
-            shapes.contours.push(points)?;
+impl Shapes {
+    /// The shapes with a contour after them, where there is one.
+    pub(crate) fn with_contour(self, contour: Option<Seq<Point>>) -> Result<Shapes, NoMemory>
+        ensures { IfOk result (λ shapes. shapes ≡ with_contour self contour) }
+    {
+        let Shapes {
+            mut contours,
+            components,
+        } = self;
+        if let Some(points) = contour {
+            contours.push(points)?;
         }
-        Ok(shapes)
-    } else if element.is_named("component") {
-        shapes.components.push(read_component(alloc, element)?)?;
-        Ok(shapes)
-    } else {
-        Err(fault(alloc, Kind::NotGlif, element))
+        Ok(Shapes {
+            contours,
+            components,
+        })
+    }
+
+    /// The shapes of the outline at this offset, where they have at most 4,000 points in all.
+    pub(crate) fn few(self, alloc: Global, at: u64) -> Result<Shapes, Stop>
+        ensures { (outline : Tree) → at ≡ at_of outline → Gives (λ shapes. shapes) result (few outline self) }
+    {
+        let count = point_count(self.contours.as_slice());
+        if (GLYPH_POINTS as i64) < count {
+            return Err(stop_at(alloc, Kind::TooManyPoints, "", at, count));
+        }
+        Ok(self)
     }
 }
 
-/// The shapes, where they have at most 4,000 points in all.
-fn few(alloc: Global, outline: &Element, shapes: Shapes) -> Result<Shapes, Stop>
-    ensures { Gives (λ shapes. shapes) result (few (plain outline.now) shapes) }
+/// What is drawn with one more element of the outline that is no contour.
+#[tactic(auto, unfolding(crate::specs::Glyphs::shape_of))]
+pub(crate) fn read_component_shape<T: Tagged>(
+    alloc: Global,
+    mut shapes: Shapes,
+    element: &T,
+) -> Result<Shapes, Stop>
+    requires { is_named (codes "contour") (T.tree element.now) ≡ false }
+    ensures { Gives (λ shapes. shapes) result (shape_of shapes (T.tree element.now)) }
 {
-    let count = point_count(shapes.contours.as_slice());
-    if (GLYPH_POINTS as i64) < count {
-        return Err(stop_at(alloc, Kind::TooManyPoints, "", outline.offset(), count));
+    if !element.is_named("component") {
+        return Err(fault(alloc, Kind::NotGlif, element));
     }
+    shapes.components.push(read_component(alloc, element)?)?;
     Ok(shapes)
+}
+
+/// What is drawn with one more element of the outline.
+#[tactic(auto, unfolding(crate::specs::Glyphs::shape_of))]
+fn read_shape(alloc: Global, shapes: Shapes, element: &Element) -> Result<Shapes, Stop>
+    ensures { Gives (λ shapes. shapes) result (shape_of shapes (plain element.now)) }
+{
+    if element.is_named("contour") {
+        let contour = read_contour(alloc, element)?;
+        return Ok(shapes.with_contour(contour)?);
+    }
+    read_component_shape(alloc, shapes, element)
 }
 
 /// What an outline draws.
@@ -69,5 +100,5 @@ pub(crate) fn read_outline(alloc: Global, outline: &Element) -> Result<Shapes, S
     for element in outline.children() {
         shapes = read_shape(alloc, shapes, element)?;
     }
-    few(alloc, outline, shapes)
+    shapes.few(alloc, outline.offset())
 }
