@@ -26,7 +26,9 @@ impl Page {
         }
     }
 
-    fn keep(&mut self, bytes: &[u8]) -> Result<(), AllocError> {
+    fn keep(&mut self, bytes: &[u8]) -> Result<(), AllocError>
+        ensures { self.new.faults ≡ self.old.faults }
+    {
         self.text.extend_from_slice(bytes)?;
         self.ends.push(self.text.len())?;
         Ok(())
