@@ -1,4 +1,5 @@
 pub mod Saying
+mod Gathering
 pub mod Streams
 pub mod Puts
 mod Cut

@@ -1,6 +1,6 @@
 -- A text that is said in pieces is said as one: nothing is said before the first piece, a piece follows
 -- what was said, and a piece that fails cuts the whole short.
-use Rattle.std.proofs.Common.{◌≡◌, ℕ, ◌+◌, ◌≤◌, ◌<◌, List, [], ◌++◌, take, drop, get_or, flat_map, length, Result, Ok, Err, sym, subst, ◌∙◌, ap, append_assoc, length-append, arith}
+use Rattle.std.proofs.Common.{◌≡◌, ℕ, ◌+◌, ◌≤◌, ◌<◌, List, [], ◌++◌, take, drop, get_or, flat_map, length, Result, Ok, Err, sym, ◌∙◌, ap, append_assoc, length-append, arith}
 use Rattle.std.proofs.lemmas.List.{drop_more, take-append-drop}
 use Rattle.std.proofs.lemmas.Grind.{flat_map-append}
 use Rattle.outside.specs.Files.{IsPrefix, HasRisen}
@@ -74,14 +74,3 @@ flat_map_parts text parts i d h =
     ∙ ap (λ rest. flat_map text (take i parts) ++ flat_map text rest) (sym (drop_more parts i d h))
     ∙ sym (flat_map-append text (take i parts) (drop i parts))
     ∙ ap (flat_map text) (take-append-drop i parts)
-
--- where one part fails after all before it were said, the text of all parts is cut short
-pub says_cut_at : {P V W E F G : Type 0} {a b c : SayState} {v : V} {f : F} (g : G)
-    (text : P → List ℕ) (parts : List P) (i : ℕ) (d : P) → i < length parts
-    → Says {E = E} a b (flat_map text (take i parts)) (Ok v)
-    → Says {V = W} b c (text (get_or parts i d)) (Err f)
-    → Says {V = W} a c (flat_map text parts) (Err g)
-says_cut_at {W} {a} {c} g text parts i d h before failed =
-    subst (λ whole. Says {V = W} a c whole (Err g))
-    (flat_map_parts text parts i d h)
-    (says_cut g (flat_map text (drop (i + 1) parts)) (says_then _ before failed))

@@ -7,6 +7,7 @@ pub mod SureSources
 pub mod MemorySources
 pub mod Piece
 pub mod Said
+pub mod Gathered
 pub mod Stream
 pub mod Stored
 pub mod SureSay

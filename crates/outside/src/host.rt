@@ -89,8 +89,8 @@ impl<R: Files> Sources for HostSources<R> {
     }
 }
 
-/// The files of the host, to write to. `begin` makes a file that isn't there, and empties one that is.
-/// It tells nothing of what the files hold.
+/// The files of the host, to write to. `begin` makes a file that isn't there, and empties one that is. The
+/// file is held open until `end` or the next `begin` closes it. It tells nothing of what the files hold.
 #[derive(Drop)]
 pub struct HostOutputs<R: Files> {
     rt: R,
@@ -120,7 +120,7 @@ impl<R: Files> Outputs for HostOutputs<R> {
         ensures begun { is_some self.new.file ≡ is_ok result }
         ensures counted { self.new.faults ≡ count_after self.old.faults result }
     {
-        self.file = None;
+        self.end();
         match fs::create(&self.rt, path) {
             Ok(file) => {
                 self.file = Some(file);
@@ -148,6 +148,13 @@ impl<R: Files> Outputs for HostOutputs<R> {
                 Err(Failed)
             }
         }
+    }
+
+    fn end(&mut self)
+        ensures closed { self.new.file ≡ None }
+        ensures faults { self.new.faults ≡ self.old.faults }
+    {
+        self.file = None;
     }
 }
 

@@ -66,7 +66,7 @@ impl Outputs for MemoryOutputs {
         ensures next { next_of self.new ≡ next_number (next_of self.old) }
     {
         if self.failures.next_fails() {
-            self.inner.end();
+            self.inner.fail_begin();
             return Err(Failed);
         }
         self.inner.begin(path)
@@ -95,5 +95,16 @@ impl Outputs for MemoryOutputs {
             return Err(Failed);
         }
         self.inner.append(bytes)
+    }
+
+    fn end(&mut self)
+        ensures files { files_of self.new ≡ files_of self.old }
+        ensures begun { begun_of self.new ≡ None }
+        ensures room { room_of self.new ≡ room_of self.old }
+        ensures faults { faults_of self.new ≡ faults_of self.old }
+        ensures failing { failing_of self.new ≡ failing_of self.old }
+        ensures next { next_of self.new ≡ next_of self.old }
+    {
+        self.inner.end();
     }
 }

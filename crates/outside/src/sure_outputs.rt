@@ -79,7 +79,7 @@ impl SureOutputs {
     }
 
     /// Ends the path that is begun, and counts a fault.
-    pub(crate) fn end(&mut self)
+    pub(crate) fn fail_begin(&mut self)
         ensures files { files_of self.new ≡ files_of self.old }
         ensures begun { begun_of self.new ≡ None }
         ensures room { room_of self.new ≡ room_of self.old }
@@ -109,7 +109,7 @@ impl Outputs for SureOutputs {
         ensures room { room_of self.new ≡ room_of self.old }
     {
         let Some(index) = self.slots.begin(path) else {
-            self.end();
+            self.fail_begin();
             return Err(Failed);
         };
         self.current = Some(index);
@@ -132,5 +132,14 @@ impl Outputs for SureOutputs {
         }
         self.faults = self.faults.saturating_add(1);
         Err(Failed)
+    }
+
+    fn end(&mut self)
+        ensures files { files_of self.new ≡ files_of self.old }
+        ensures begun { begun_of self.new ≡ None }
+        ensures room { room_of self.new ≡ room_of self.old }
+        ensures faults { faults_of self.new ≡ faults_of self.old }
+    {
+        self.current = None;
     }
 }

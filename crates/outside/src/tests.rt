@@ -84,16 +84,18 @@ fn rooms(alloc: Global) -> Result<Seq<(Name, u64)>, NoMemory> {
     Ok(rooms)
 }
 
-/// Begins the path and adds two pieces, and tells which of the three calls went well.
+/// Begins the path, adds two pieces and ends the file, and tells which of the first three calls went well.
 fn write<O: Outputs>(outputs: &mut O, path: &str, first: &[u8], second: &[u8]) -> [bool; 3] {
-    match outputs.begin(path) {
+    let went = match outputs.begin(path) {
         Ok(()) => {
             let first = outputs.append(first).is_ok();
             let second = outputs.append(second).is_ok();
             [true, first, second]
         }
         Err(_) => [false; 3],
-    }
+    };
+    outputs.end();
+    went
 }
 
 /// Writes two pieces to `a`, two to `b` and then to `c`, and tells which calls went well.

@@ -80,6 +80,15 @@ pub trait Outputs {
         ensures counted { Counts (state self.old).faults (state self.new).faults result }
         ensures sure { (state self.old).is_sure → (state self.new).is_sure × ((state self.new).room ≡ (state self.old).room) }
         ensures full { (state self.old).is_sure → (state self.old).tells → (path : List ℕ) → (state self.old).begun ≡ Some path → OnErr result (Exceeds ((state self.old).room path) (length (content (state self.old).files path)) (length bytes.now)) };
+
+    /// Ends the file that is begun: no path is begun after it, so nothing more goes there, and what was written stays. A file of the
+    /// host is closed then. With none begun nothing changes.
+    fn end(&mut self)
+        ensures told { (state self.old).tells → (state self.new).tells }
+        ensures ended { (state self.new).begun ≡ None }
+        ensures same { (state self.old).tells → (state self.new).files ≡ (state self.old).files }
+        ensures counted { (state self.old).faults ≤ (state self.new).faults }
+        ensures sure { (state self.old).is_sure → (state self.new).is_sure × ((state self.new).room ≡ (state self.old).room) };
 }
 
 /// Where text is said.

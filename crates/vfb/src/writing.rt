@@ -8,7 +8,7 @@ use crate::product::{File, Product};
 use outside::{Failed, Outputs, Say};
 
 /// Begins a file at the path, and appends the pieces to it.
-fn write_file<O: Outputs>(outputs: &mut O, path: &str, pieces: &[Vec<u8>]) -> Result<(), Failed>
+fn write_pieces<O: Outputs>(outputs: &mut O, path: &str, pieces: &[Vec<u8>]) -> Result<(), Failed>
     ensures { WritesFile (O.state outputs.old) (O.state outputs.new) path.now (concat (map (λ piece. piece.items) pieces.now)) result }
 {
     outputs.begin(path)?;
@@ -16,6 +16,15 @@ fn write_file<O: Outputs>(outputs: &mut O, path: &str, pieces: &[Vec<u8>]) -> Re
         outputs.append(piece.as_slice())?;
     }
     Ok(())
+}
+
+/// Writes a file of the pieces at the path, and ends it, whether it was written whole or not.
+fn write_file<O: Outputs>(outputs: &mut O, path: &str, pieces: &[Vec<u8>]) -> Result<(), Failed>
+    ensures { WritesFile (O.state outputs.old) (O.state outputs.new) path.now (concat (map (λ piece. piece.items) pieces.now)) result }
+{
+    let written = write_pieces(outputs, path, pieces);
+    outputs.end();
+    written
 }
 
 /// Writes the files one after another, up to the first that can't be written, whose path is answered.
@@ -31,7 +40,7 @@ fn write_files<'a, O: Outputs>(outputs: &mut O, files: &[File<'a>]) -> Result<()
     }
 }
 
-/// Writes the files of a product, and then says its text.
+/// Writes the files of a product, and then says its text. Each file is ended before the next is begun and before the text is said.
 pub(crate) fn write_product<'a, O: Outputs, T: Say>(
     product: &Product<'a>,
     outputs: &mut O,

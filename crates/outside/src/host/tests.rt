@@ -56,6 +56,22 @@ fn writes_files_of_the_host(rt: HostRuntime) -> Result<(), Fail> {
 }
 
 #[test]
+fn ends_a_file_of_the_host(rt: HostRuntime) -> Result<(), Fail> {
+    let path = temporary(&rt, "ended")?;
+    let mut outputs = HostOutputs::new(&rt);
+    outputs.begin(path.as_str())?;
+    outputs.append(b"whole")?;
+    outputs.end();
+    assert!(rt; outputs.file.is_none());
+    outputs.end();
+    let written = fs::read(&rt, path.as_str())?;
+    fs::remove_file(&rt, path.as_str())?;
+    assert_eq!(rt; written.as_slice(), b"whole".as_slice());
+    assert_eq!(rt; outputs.faults, 0);
+    Ok(())
+}
+
+#[test]
 fn reads_files_of_the_host(rt: HostRuntime) -> Result<(), Fail> {
     let path = temporary(&rt, "read")?;
     write_pieces(&mut HostOutputs::new(&rt), path.as_str())?;

@@ -1,7 +1,7 @@
 use Rattle.std.proofs.Common.{map, take}
 use Rattle.std.specs.List.{concat}
 use Rattle.vfb.specs.Writing.{Holds}
-use Rattle.vfb.proofs.writing.write_file.Given as goal
+use Rattle.vfb.proofs.writing.write_pieces.Given as goal
 
 abbrev pub invariant-loop-piece : goal.invariant-loop-piece
 invariant-loop-piece g l =

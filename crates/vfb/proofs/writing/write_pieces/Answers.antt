@@ -3,7 +3,7 @@ use Rattle.std.specs.Prelude.{IsSome}
 use Rattle.std.specs.List.{concat}
 use Rattle.outside.specs.Files.{put}
 use Rattle.vfb.proofs.FileLemmas.{add-held, joined_more, joined_all, cut_in_piece, full_in_piece, rises_after, writes_cut}
-use Rattle.vfb.proofs.writing.write_file.Goals as goal
+use Rattle.vfb.proofs.writing.write_pieces.Goals as goal
 
 pub loop-piece-preserved : goal.loop-piece-preserved
 loop-piece-preserved g c =
