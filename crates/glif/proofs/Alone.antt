@@ -5,7 +5,7 @@ use Rattle.std.specs.Bool.{if◌then◌else◌}
 use Rattle.std.specs.Str.{bytes_eq}
 use Rattle.basics.specs.Reading.{◌>>=◌, each}
 use Rattle.basics.specs.declared.fault.Spot.{Spot}
-use Rattle.markup_rules.specs.Tree.{Tree, Trees, node, no_trees, trees_of, list_of, is_named}
+use Rattle.markup_rules.specs.Tree.{Tree, Trees, node, trees_of, list_of, is_named}
 use Rattle.markup_rules.specs.Outcome.{Frame, ended}
 use Rattle.basics.specs.Reading.{spot_of}
 use Rattle.basics.specs.declared.kinds.Kind.TheVariants.{NotGlif, OpenContour, TooManyPoints}

@@ -1,7 +1,6 @@
 -- What is kept of a glyph goes on with each element that begins or ends.
-use Rattle.std.proofs.Common.{◌≡◌, ℕ, Bool, true, false, List, [], ◌∷◌, ◌++◌, map, codes, Option, Some, None, Ok, Err, refl, sym, ap, ◌∙◌}
+use Rattle.std.proofs.Common.{◌≡◌, ℕ, true, false, List, [], ◌∷◌, ◌++◌, map, codes, Option, Some, Ok, Err, refl, sym, ap, ◌∙◌}
 use Rattle.std.specs.Prelude.{Result}
-use Rattle.std.specs.Bool.{if◌then◌else◌}
 use Rattle.std.proofs.lemmas.Bool.{cond-true}
 use Rattle.std.proofs.lemmas.List.{map-append}
 use Rattle.basics.specs.Reading.{◌>>=◌, in_turn}
@@ -9,7 +8,6 @@ use Rattle.basics.specs.declared.fault.Spot.{Spot}
 use Rattle.markup_rules.specs.Tree.{Tree, Trees, children_of, trees_of, is_named}
 use Rattle.markup_rules.specs.Outcome.{Frame, ended}
 use Rattle.glif.specs.declared.shape.Point.{Point}
-use Rattle.glif.specs.declared.shape.Drawing.{Drawing}
 use Rattle.glif.specs.declared.outline.Shapes.{Shapes}
 use Rattle.glif.specs.declared.glyph.Seen.{Seen}
 use Rattle.glif.specs.declared.contour.Contour.{Contour}
@@ -18,7 +16,7 @@ use Rattle.glif.specs.declared.part.OpenOutline.{OpenOutline}
 use Rattle.glif.specs.declared.part.OpenContour.{OpenContour}
 use Rattle.glif.specs.Contours.{contour_of}
 use Rattle.glif.specs.Gathered.{IsContour}
-use Rattle.glif.specs.Glyphs.{child_of, drawing_of, drawn, few, no_shapes, nothing_seen, outline_of, shape_of, with_contour}
+use Rattle.glif.specs.Glyphs.{child_of, drawing_of, drawn, few, no_shapes, nothing_seen, outline_of, shape_of}
 use Rattle.glif.specs.Opened.{is_first_outline, opened}
 use Rattle.glif.specs.Parts.{IsInContour, IsInOutline, glyph_of, going_on, tag_alone, tag_of, with_child, with_outline, with_points, with_seen}
 use Rattle.glif.proofs.Alone.{child_alone, list_of_trees, opened_alone, shape_alone}

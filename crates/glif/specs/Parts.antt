@@ -1,6 +1,6 @@
 -- What is kept of a glyph while its text is read: where in the glyph the text stands, and what the elements before have
 -- given. Frames are the open elements, the innermost first.
-use Rattle.std.specs.Prelude.{◌≡◌, ℕ, zero, suc, true, List, [], ◌∷◌, ◌++◌, map, codes, Option, Some, None, Result, Ok}
+use Rattle.std.specs.Prelude.{◌≡◌, ℕ, zero, suc, true, List, [], ◌∷◌, ◌++◌, map, codes, Option, Some, Result, Ok}
 use Rattle.basics.specs.Reading.{◌>>=◌, in_turn}
 use Rattle.basics.specs.declared.fault.Spot.{Spot}
 use Rattle.markup_rules.specs.Tree.{Tree, Trees, node, no_trees, is_named}

@@ -284,6 +284,12 @@ impl DrawingPart {
             self.passed = passed;
             return Ok(());
         }
+        // Most elements are points, so their contour is not moved.
+        if let Place::Contour(contour) = &mut self.place {
+            contour.contour.take(alloc, tag)?;
+            self.passed = 1;
+            return Ok(());
+        }
         let place = mem::replace(&mut self.place, Place::Before);
         *self = start_in(alloc, place, tag)?;
         Ok(())

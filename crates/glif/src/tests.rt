@@ -1,4 +1,4 @@
-use crate::{Drawing, Outline, Point, coordinate_outside, read, within};
+use crate::{Drawing, Outline, Point, coordinate_outside, read, read_text, within};
 use basics::{NoMemory, Seq, Spot, Stop};
 use std::alloc::{AllocError, Global};
 use std::fmt::Write;
@@ -9,7 +9,9 @@ use std::test::Fail;
 // The fault's offset is that of the mark `@`, which isn't part of the text, or 0 where no mark stands.
 
 /// Whole files that have a fault at their root.
-const ROOTS: [(&str, &str); 21] = [
+const ROOTS: [(&str, &str); 22] = [
+    // A fault of the text comes before one of its tree.
+    ("<glyph name='a' format='3'>@", "Unfinished - 0"),
     ("@<glif name='a' format='2'/>", "NotGlif - 0"),
     ("\n@<Glyph name='a' format='2'/>", "NotGlif - 0"),
     ("\n<glyph name='a'/>", "FormatVersion - -1"),
@@ -274,7 +276,16 @@ const FILES: [(&str, &str); 5] = [
 ];
 
 /// What stands in a right glyph of the name `a`.
-const GLYPHS: [(&str, &str); 22] = [
+const GLYPHS: [(&str, &str); 24] = [
+    // What stands in elements that have nothing to read in them is passed over.
+    (
+        "<advance width='3'><outline><x/></outline></advance><unicode hex='41'><note>text</note></unicode>",
+        "a 3 #65",
+    ),
+    (
+        "<outline><contour><point x='1' y='2'><point x='q'/></point></contour><component base='b'><contour><x/></contour></component></outline>",
+        "a 0 [!(1,2)] {b 0 0}",
+    ),
     ("<advance width='+5'/>", "a 5"),
     ("<advance width='\n 0005.000\t\r'/>", "a 5"),
     ("<advance width='-0'/>", "a 0"),
@@ -537,20 +548,35 @@ fn shown_fault(alloc: Global, spot: &Spot, at: usize) -> Result<String, AllocErr
     format!(in alloc; "{} {item} {}", spot.kind.name(), spot.first)
 }
 
-/// The drawing that a text has.
-fn read_text(alloc: Global, text: &str) -> Result<Drawing, Stop> {
+/// The drawing that the tree of a text means.
+fn read_tree(alloc: Global, text: &str) -> Result<Drawing, Stop> {
     let tree = markup::read(alloc, text.as_bytes())?;
     read(alloc, &tree)
 }
 
-/// What reading a text without its mark answers, as text.
+/// An answer as text, where a fault is at this offset.
+fn shown_answer(
+    alloc: Global,
+    answer: Result<Drawing, Stop>,
+    at: usize,
+) -> Result<String, AllocError> {
+    match answer {
+        Ok(drawing) => shown(alloc, &drawing),
+        Err(Stop::NoMemory) => String::from_str(alloc, "NoMemory"),
+        Err(Stop::At(spot)) => shown_fault(alloc, &spot, at),
+    }
+}
+
+/// What reading a text without its mark answers, as text: by its tree and at once the same.
 fn answer(alloc: Global, marked: &str) -> Result<String, AllocError> {
     let (before, after) = marked.split_once('@').unwrap_or(("", marked));
     let text = format!(in alloc; "{before}{after}")?;
-    match read_text(alloc, text.as_str()) {
-        Ok(drawing) => shown(alloc, &drawing),
-        Err(Stop::NoMemory) => String::from_str(alloc, "NoMemory"),
-        Err(Stop::At(spot)) => shown_fault(alloc, &spot, before.len()),
+    let by_tree = shown_answer(alloc, read_tree(alloc, text.as_str()), before.len())?;
+    let at_once = shown_answer(alloc, read_text(alloc, text.as_bytes()), before.len())?;
+    if at_once.as_str() == by_tree.as_str() {
+        Ok(at_once)
+    } else {
+        format!(in alloc; "{at_once}, but {by_tree} by the tree")
     }
 }
 

@@ -1,4 +1,4 @@
-use Rattle.std.proofs.Common.{◌≡◌, ℕ, List, Ok, Err}
+use Rattle.std.proofs.Common.{ℕ, List, Ok, Err}
 use Rattle.std.specs.Prelude.{All, IfOk, Result}
 use Rattle.basics.specs.Reading.{Gives}
 use Rattle.basics.specs.declared.fault.Stop.{Stop}

@@ -1,4 +1,4 @@
-use Rattle.std.proofs.Common.{◌≡◌, map, sym, ◌∙◌}
+use Rattle.std.proofs.Common.{map, sym, ◌∙◌}
 use Rattle.markup_rules.specs.Tree.{children_of}
 use Rattle.glif.specs.Contours.{contour_of}
 use Rattle.glif.specs.Gathered.{IsContour}

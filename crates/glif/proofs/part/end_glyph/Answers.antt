@@ -1,4 +1,4 @@
-use Rattle.std.proofs.Common.{◌≡◌, sym, ap, ◌∙◌}
+use Rattle.std.proofs.Common.{◌∙◌}
 use Rattle.glif.proofs.Keeping.{glyph_ended}
 use Rattle.glif.proofs.part.end_glyph.Goals as goal
 

@@ -1,4 +1,4 @@
-use Rattle.std.proofs.Common.{◌≡◌, sym, ap, ◌∙◌, Ok, Err}
+use Rattle.std.proofs.Common.{sym, ap, ◌∙◌, Err}
 use Rattle.std.specs.Prelude.{Result}
 use Rattle.basics.specs.Reading.{◌>>=◌}
 use Rattle.basics.specs.declared.fault.Spot.{Spot}

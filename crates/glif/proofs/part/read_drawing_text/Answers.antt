@@ -1,4 +1,4 @@
-use Rattle.std.proofs.Common.{◌≡◌, Some}
+use Rattle.std.proofs.Common.{Some}
 use Rattle.glif.specs.Parts.{IsPlace}
 use Rattle.glif.proofs.Passing.{none_open}
 use Rattle.glif.proofs.part.read_drawing_text.Goals as goal

@@ -1,10 +1,7 @@
-use Rattle.std.proofs.Common.{◌≡◌, List, Option, Err, ap, ◌∙◌, subst}
-use Rattle.basics.specs.declared.fault.Spot.{Spot}
-use Rattle.markup_rules.specs.Outcome.{Frame, begun}
-use Rattle.markup_rules.specs.Tree.{Tree}
+use Rattle.std.proofs.Common.{Err, ap, ◌∙◌, subst}
+use Rattle.markup_rules.specs.Outcome.{begun}
 use Rattle.markup.specs.Tags.{opening_of}
 use Rattle.glif.specs.Parts.{IsPlace}
-use Rattle.glif.specs.declared.part.Place.{Place}
 use Rattle.glif.specs.declared.part.Place.TheVariants as place
 use Rattle.glif.proofs.Passing.{faulty_begun}
 use Rattle.glif.proofs.part.start_in.Goals as goal

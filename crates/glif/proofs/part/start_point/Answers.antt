@@ -1,4 +1,4 @@
-use Rattle.std.proofs.Common.{◌≡◌, map}
+use Rattle.std.proofs.Common.{map}
 use Rattle.markup_rules.specs.Outcome.{begun}
 use Rattle.markup.specs.Tags.{opening_of}
 use Rattle.glif.specs.Parts.{tag_alone}

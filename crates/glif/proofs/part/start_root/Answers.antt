@@ -1,7 +1,7 @@
-use Rattle.std.proofs.Common.{◌≡◌, sym, ap, ◌∙◌}
+use Rattle.std.proofs.Common.{sym, ap, ◌∙◌}
 use Rattle.markup.specs.Tags.{tag_tree}
 use Rattle.glif.specs.Opened.{opened}
-use Rattle.glif.specs.Parts.{IsKept, named}
+use Rattle.glif.specs.Parts.{named}
 use Rattle.glif.proofs.part.start_root.Goals as goal
 
 pub returns : goal.returns

@@ -1,4 +1,4 @@
-use Rattle.std.proofs.Common.{◌≡◌, sym, ap, ◌∙◌}
+use Rattle.std.proofs.Common.{sym, ◌∙◌}
 use Rattle.markup_rules.specs.Outcome.{begun}
 use Rattle.markup.specs.Tags.{opening_of, tag_tree}
 use Rattle.glif.specs.Glyphs.{shape_of}

@@ -1,5 +1,4 @@
-use Rattle.std.proofs.Common.{◌≡◌, sym, ap, ◌∙◌, Ok, Err}
-use Rattle.std.specs.Prelude.{Result}
+use Rattle.std.proofs.Common.{◌≡◌, sym, ap, ◌∙◌}
 use Rattle.markup_rules.specs.Reading.{is_nil}
 use Rattle.glif.specs.Contours.{point_of}
 use Rattle.glif.proofs.Gathering.{fault_drawn, faulty_drawn, nil_test, point_drawn}
