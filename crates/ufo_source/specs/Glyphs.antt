@@ -6,16 +6,16 @@ use Rattle.basics.specs.Reading.{◌>>=◌, each, in_turn, spot_of}
 use Rattle.basics.specs.declared.kinds.Kind.TheVariants.{DuplicateCode}
 use Rattle.basics.specs.declared.fault.Fault.{Fault}
 use Rattle.basics.specs.declared.fault.Spot.{Spot}
-use Rattle.source_files.specs.Trees.{in_file, tree_at}
-use Rattle.glif.specs.Glyphs.{drawing_of}
+use Rattle.source_files.specs.Trees.{in_file, meant_at}
+use Rattle.glif.specs.Texts.{drawing_of_text}
 use Rattle.glif.specs.declared.shape.Drawing.{Drawing}
 use Rattle.ufo_source.specs.Contents.{Entry, contents_path}
 use Rattle.ufo_source.specs.Naming.{entry_named}
 use Rattle.ufo_source.specs.Paths.{file_name, path_in}
 
--- the drawing of a file, or its first fault
+-- the drawing of a file's text, or its first fault
 unfoldable pub drawing_at : Files → List ℕ → Result Drawing Fault
-drawing_at files path = tree_at files path >>= λ tree. in_file path (drawing_of tree)
+drawing_at files path = meant_at drawing_of_text files path
 
 -- the file's name is tested just before the file is read, and the name in the contents is the glyph's
 unfoldable pub glyph_at : Files → List ℕ → List ℕ → Entry → Result Drawing Fault

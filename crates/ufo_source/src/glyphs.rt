@@ -15,7 +15,7 @@ use crate::taken::Glyphs;
 use basics::{Kind, Name, Seq, Stop, stop_at};
 use glif::Drawing;
 use outside::Sources;
-use source_files::{ReadStop, in_file, read_tree};
+use source_files::{ReadStop, in_file, read_file};
 use std::alloc::Global;
 
 /// Reads the drawing of the GLIF at `path`.
@@ -24,8 +24,8 @@ fn read_at<S: Sources>(alloc: Global, sources: &mut S, path: &str) -> Result<Dra
     ensures exact { Reads (S.state sources.old) (S.state sources.new) (λ named. named ≡ path.now) (Answers (λ drawing. drawing) result (drawing_at (S.state sources.old).files path.now)) result }
     ensures within { IfOk result IsDrawingWithin }
 {
-    let tree = read_tree(alloc, sources, path)?;
-    in_file(alloc, path, glif::read(alloc, &tree))
+    let text = read_file(alloc, sources, path)?;
+    in_file(alloc, path, glif::read_text(alloc, text.as_slice()))
 }
 
 /// Reads the drawing of the GLIF of this name in the folder.

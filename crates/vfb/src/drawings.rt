@@ -2,7 +2,6 @@ ghost use Rattle.std.specs.Prelude.{◌≡◌, length, map, All, IfOk};
 ghost use Rattle.basics.specs.Reading.{Gives};
 ghost use Rattle.glif.specs.Limits.{IsWithinLimits};
 ghost use Rattle.glif.specs.declared.shape.Drawing.{Drawing};
-ghost use Rattle.markup.specs.Plain.{plain};
 ghost use Rattle.source_files.specs.Stops.{Answers, Reads};
 ghost use Rattle.vfb.specs.Faults.{alone, drawing_at, drawings_of, drawn_alone};
 ghost use Rattle.vfb.specs.Stops.{StopsAt};
@@ -11,9 +10,8 @@ ghost use Rattle.commands.specs.Words.{seen};
 use basics::{Kind, Seq, Stop, stop_at};
 use commands::Located;
 use glif::Drawing;
-use markup::Element;
 use outside::Sources;
-use source_files::{ReadStop, in_file, read_tree};
+use source_files::{ReadStop, in_file, read_file};
 use std::alloc::Global;
 
 /// The drawing, if it has no components: it stands alone, so that they would draw nothing.
@@ -28,13 +26,13 @@ fn alone(alloc: Global, drawing: Drawing) -> Result<Drawing, Stop>
     }
 }
 
-/// The drawing that a tree is as a GLIF, if it has no components.
+/// The drawing that a text is as a GLIF, if it has no components.
 #[tactic(auto, unfolding(crate::specs::Faults::drawn_alone))]
-fn drawn_alone(alloc: Global, tree: &Element) -> Result<Drawing, Stop>
-    ensures gives { Gives (λ drawing. drawing) result (drawn_alone (plain tree.now)) }
+fn drawn_alone(alloc: Global, text: &[u8]) -> Result<Drawing, Stop>
+    ensures gives { Gives (λ drawing. drawing) result (drawn_alone text.now) }
     ensures within { IfOk result (λ drawing. IsWithinLimits drawing.outline) }
 {
-    let drawing = glif::read(alloc, tree)?;
+    let drawing = glif::read_text(alloc, text)?;
     alone(alloc, drawing)
 }
 
@@ -48,8 +46,8 @@ fn read_drawing<S: Sources>(
     ensures reads { Reads (S.state sources.old) (S.state sources.new) (λ named. named ≡ located.now.path.now) (Answers (λ drawing. drawing) result (drawing_at (S.state sources.old).files (seen located.now))) result }
     ensures within { IfOk result (λ drawing. IsWithinLimits drawing.outline) }
 {
-    let tree = read_tree(alloc, sources, located.path)?;
-    in_file(alloc, located.path, drawn_alone(alloc, &tree))
+    let text = read_file(alloc, sources, located.path)?;
+    in_file(alloc, located.path, drawn_alone(alloc, text.as_slice()))
 }
 
 /// Reads the drawings, one for each that the words location, in the order of the words. A file with a
